@@ -1,0 +1,16 @@
+pub mod Codes
+pub mod Trees
+pub mod Lengths
+pub mod Queries
+pub mod Realise
+pub mod Sheets
+pub mod Same
+pub mod Listing
+pub mod Verdicts
+pub mod Found
+pub mod Strictly
+pub mod Rule
+pub mod Merging
+pub mod Promises
+pub mod Counting
+pub mod Sampled

@@ -1,0 +1,7 @@
+pub mod Order
+pub mod Sheet
+pub mod Verdict
+pub mod Rebuilt
+pub mod Samples
+pub mod Tree
+pub mod Theorems
