@@ -13,7 +13,8 @@ use Rattle.std.specs.declared.option.Option.{Option}
 use Rattle.std.specs.declared.option.Option.the-variants.{Some, None}
 use Rattle.leaders.specs.Order.{Strict}
 use Rattle.leaders.specs.Sheet.{unary, dropLast, sheet}
-use Rattle.leaders.specs.Verdict.{falses, trues, closeAt, closes, spent, taken, tooMany, lowest, walk, walked, Walked, finish, judged, verdict, Refusal, refusal}
+use Rattle.leaders.specs.Verdict.{falses, trues, closeAt, closes, spent, taken, tooMany, lowest, walk, walked, Walked, finish, judged, verdict}
+use Rattle.leaders.specs.Refusal.{Refusal, refusal}
 use Rattle.leaders.specs.Tree.{Tree, leaf, node, size, ls, rs, Wellformed, counts, words, encode}
 use Rattle.leaders.proofs.Codes.{Alike, alike-ls}
 use Rattle.leaders.proofs.Lengths.{unary-length, counts-length, word-length}

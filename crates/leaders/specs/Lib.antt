@@ -1,5 +1,6 @@
 pub mod Order
 pub mod Sheet
+pub mod Refusal
 pub mod Verdict
 pub mod Rebuilt
 pub mod Samples

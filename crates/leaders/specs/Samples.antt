@@ -10,7 +10,8 @@ use Prim.Native.String.{String}
 use Rattle.std.specs.declared.result.Result.the-variants.{Ok, Err}
 use Rattle.leaders.specs.Order.{beats, dearer}
 use Rattle.leaders.specs.Sheet.{brackets, spines}
-use Rattle.leaders.specs.Verdict.{verdict, refusal}
+use Rattle.leaders.specs.Refusal.{refusal}
+use Rattle.leaders.specs.Verdict.{verdict}
 use Rattle.leaders.specs.Rebuilt.{rebuilt}
 
 -- The bits that letters mean, `(` for 1; and the bits that digits mean.

@@ -8,14 +8,7 @@ use Rattle.std.specs.declared.option.Option.{Option}
 use Rattle.std.specs.declared.option.Option.the-variants.{Some, None}
 use Rattle.std.specs.declared.result.Result.{Result}
 use Rattle.std.specs.declared.result.Result.the-variants.{Ok, Err}
-
--- Why a call is declined: the refusal's number, and the values that it tells.
-pub record Refusal : Type 0 where
-  pub number : ℕ
-  pub values : List ℕ
-
-abbrev pub refusal : ℕ → List ℕ → Refusal
-refusal k vs = record { number = k; values = vs }
+use Rattle.leaders.specs.Refusal.{Refusal, refusal}
 
 -- The most lots that a book or a sheet has, and the bits of their brackets.
 abbrev pub mostLots : ℕ

@@ -1,0 +1,2 @@
+pub mod Bitlists
+pub mod Letters

@@ -1,0 +1,4 @@
+pub mod Steps
+pub mod Keyed
+pub mod Casts
+pub mod Calls

@@ -1,0 +1,4 @@
+pub mod Faults
+pub mod Entries
+pub mod Held
+pub mod Ledger

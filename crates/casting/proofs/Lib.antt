@@ -1,0 +1,4 @@
+pub mod Joins
+pub mod Puts
+pub mod Walking
+pub mod Ends
