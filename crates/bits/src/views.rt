@@ -56,12 +56,6 @@ pub impl<T: Tape> Tape for Window<T> as WindowTape {
             None
         }
     }
-
-    fn rank(&self, p: usize) -> usize {
-        let start = self.from.min(self.below.len());
-        let end = start + p.min(self.len());
-        self.below.rank(end) - self.below.rank(start)
-    }
 }
 
 pub impl<'a, T: Tape> Tape for &'a T as RefTape {

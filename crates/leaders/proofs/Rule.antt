@@ -13,20 +13,12 @@ use Rattle.std.proofs.shelf.Tests.{cases-lt, cases-eq, cases-order, cases-bool,
 use Rattle.std.proofs.shelf.Ways.{tells}
 use Rattle.leaders.specs.Order.{Strict, Best, Second, IsSecond, best, second}
 use Rattle.leaders.specs.Sheet.{tally, insert, ranked, inL, inR, fullWord, dropLast, spineOf}
-use Rattle.leaders.specs.Tree.{Mem}
+use Rattle.leaders.specs.Tree.{Mem, sooner}
 use Rattle.leaders.specs.Theorems.{symbolAt, before, leftFirst, secondBy, Second-by-the-spine}
 use Rattle.leaders.proofs.Trees.{Sorted, asym}
 use Rattle.leaders.proofs.Sheets.{InL, InR, L-from-test, R-from-test, test-from-L, test-from-R, ranked-there, ranked-here, ranked-sorted}
 use Rattle.leaders.proofs.Found.{best-is, second-is}
 use Rattle.leaders.proofs.Same.{second-one}
-
--- whether a 0 that x 0s precede comes before a 1 that y 1s precede
-unfoldable pub sooner : List Bool → ℕ → ℕ → Bool
-sooner [] x y = false
-sooner (false ∷ bs) zero y = true
-sooner (false ∷ bs) (suc x) y = sooner bs x y
-sooner (true ∷ bs) x zero = false
-sooner (true ∷ bs) x (suc y) = sooner bs x y
 
 before-next : (p q : Option ℕ) → before (mapped suc p) (mapped suc q) ≡ before p q
 before-next None q = refl

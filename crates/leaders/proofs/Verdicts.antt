@@ -229,7 +229,7 @@ unfolding walk unary
 walk-unary all e zero st lot at bad rest = ap (λ n. walk all n st lot at bad (false ∷ rest)) (let y : e ≡ e + 0 = omega arith in y)
 walk-unary all e (suc d) st lot at bad rest = walk-unary all (e + 1) d st lot at bad rest ∙ ap (λ n. walk all n st lot at bad (false ∷ rest)) (let y : e + 1 + d ≡ e + suc d = omega arith in y)
 
-walk-zero : (all : List Bool) (d : ℕ) (st : List ℕ) (lot at bad : ℕ) (bs : List Bool) → 0 < length st →
+pub walk-zero : (all : List Bool) (d : ℕ) (st : List ℕ) (lot at bad : ℕ) (bs : List Bool) → 0 < length st →
     walk all d st lot at bad (false ∷ bs) ≡ walk all 0 (d ∷ taken st) (lot + 1) (at + (spent st + d - 1)) (lowest (lot + 1) bad (tooMany (spent st) d (take (spent st + d - 1) (drop at all)))) bs
 unfolding walk
 walk-zero all d [] lot at bad bs h = absurd (omega arith)

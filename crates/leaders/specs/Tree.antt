@@ -110,3 +110,11 @@ listOf o (node l w r) = root o l ∷ blend w (spineR o l) (spineL (root o l) r) 
 -- earlier in the list beats later, and lots that are not in it come last by their numbers
 unfoldable pub earlier : List ℕ → ℕ → ℕ → Bool
 earlier zs x y = cond (ltb (place zs x) (place zs y)) true (cond (ltb (place zs y) (place zs x)) false (ltb x y))
+
+-- whether a 0 that x 0s precede comes before a 1 that y 1s precede
+unfoldable pub sooner : List Bool → ℕ → ℕ → Bool
+sooner [] x y = false
+sooner (false ∷ bs) zero y = true
+sooner (false ∷ bs) (suc x) y = sooner bs x y
+sooner (true ∷ bs) x zero = false
+sooner (true ∷ bs) x (suc y) = sooner bs x y

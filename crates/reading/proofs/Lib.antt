@@ -1,0 +1,7 @@
+pub mod Climbs
+pub mod Readers
+pub mod Places
+pub mod Zooms
+pub mod Pages
+pub mod Seconds
+pub mod Checks
