@@ -15,10 +15,28 @@ use bits::views::WindowTape;
 /// Why a tape is not taken.
 #[derive(Clone, Copy)]
 pub enum SheetFault {
+    /// It is empty, begins with `)`, or never has as many `)` as `(`.
     Unbalanced,
+    /// The brackets first balance after more than 8,002 bits.
     TooManyLots,
+    /// There are more or fewer bits after the brackets than the spines must have.
     WrongLength,
+    /// The spine of this lot, and of no lower one, has more 0s than L(k) or more 1s than R(k).
     BadWord(u32),
+}
+
+impl SheetFault {
+    /// The number of the refusal.
+    pub fn number(&self) -> u32
+        ensures { λ r. ⌜ r ≡ told (now (self .entry)) .number ⌝ }
+    {
+        match self {
+            SheetFault::Unbalanced => 7,
+            SheetFault::TooManyLots => 8,
+            SheetFault::WrongLength => 9,
+            SheetFault::BadWord(_) => 10,
+        }
+    }
 }
 
 /// Where the last word ends, and the first lot whose word is wrong, 0 for none.

@@ -3,7 +3,7 @@
 ghost use mathlib.Core.Path.{_≡_};
 ghost use Prim.Native.Nat.{_-_, _<_, _≤_};
 ghost use Rattle.reading.specs.Reading.{reach, leftFirst, runnerUp};
-ghost use Rattle.reading.specs.Leads.{Shows};
+ghost use Rattle.reading.specs.Leads.{lotOf, Shows};
 use crate::climb::range_back;
 use crate::climb::start_of;
 use crate::place::word_at;
@@ -40,19 +40,25 @@ fn runner_up<T: Tape>(tape: &T, lots: u32, i: u32, j: u32, k: u32) -> u32
     if left_first(tape, lots, k, a, right.above) { a } else { right.best }
 }
 
-/// A best lot and a second best, 0 for none.
+/// A lot by its number, or none where that is 0.
+fn lot_of(number: u32) -> Option<u32>
+    ensures { λ r. ⌜ r ≡ lotOf number ⌝ }
+{
+    if number == 0 { None } else { Some(number) }
+}
+
+/// The best lot of a range, and the second if there is one.
 #[derive(Clone, Copy)]
 pub struct Pair {
     pub best: u32,
-    pub second: u32,
+    pub second: Option<u32>,
 }
 
-/// The best and the second best of the lots `i` to `j`, of `lots` lots.
+/// The best and the second of the lots `i` to `j`, of `lots` lots: right where the tape's bits are a sheet of so many, and the range is one of them.
 pub fn pair_of<T: Tape>(tape: &T, lots: u32, i: u32, j: u32) -> Pair
     ensures { λ r. ⌜ Shows (T·Tape .bits (now (tape .entry))) lots i j r ⌝ }
 {
     let best = range_back(tape, i, j).best;
-    let second = runner_up(tape, lots, i, j, best);
+    let second = lot_of(runner_up(tape, lots, i, j, best));
     Pair { best, second }
 }
-

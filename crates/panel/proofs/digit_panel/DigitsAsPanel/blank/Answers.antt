@@ -1,0 +1,11 @@
+use mathlib.Core.Path.{refl}
+use Rattle.panel.specs.Digits.{digitsLit}
+use Rattle.panel.specs.Inner.{guessDigits}
+use Rattle.panel.specs.declared.shown.Shown.the-variants.{Blank}
+use Rattle.panel.proofs.Meanings.{means-written}
+use Rattle.panel.proofs.Lighting.{digits-undone}
+use Rattle.panel.proofs.digit_panel.DigitsAsPanel.blank.Needs as need
+
+pub returns : need.returns
+returns c =
+    record { shown = means-written guessDigits digitsLit digits-undone (c .light-self .result) Blank refl (c .light-self .ensures); lit = c .light-self .ensures }
