@@ -20,6 +20,7 @@ proper Blank = true
 proper (Best best) = isLot best
 proper (Pair best second) = isLot best && isLot second
 
+-- a best lot with a second or without
 abbrev pub pairOf : ℕ → Option ℕ → Shown
 pairOf best None = Best best
 pairOf best (Some second) = Pair best second

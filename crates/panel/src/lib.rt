@@ -16,7 +16,7 @@ pub trait Panel {
     // What it shows.
     ghost shows: { Self → Shown };
 
-    /// Shows a best lot with a second or without; blanks the panel if a number is no lot's.
+    /// Shows a best lot with a second or without; blanks the panel if a number is outside 1 to 4,000.
     fn show(&mut self, best: u32, second: Option<u32>)
         ensures { λ _. ⌜ shows (now (self .exit)) ≡ told best second ⌝ };
 

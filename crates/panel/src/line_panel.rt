@@ -12,6 +12,9 @@ use crate::numeral::width;
 use crate::numeral::write;
 use crate::shown::Shown;
 
+/// The letters of the digits 0 to 9.
+const LETTERS: [u8; 10] = *b"0123456789";
+
 /// A panel of nine bytes: the best in decimal, a comma, the second if any, then spaces.
 #[derive(Drop)]
 pub struct LinePanel {
@@ -75,10 +78,10 @@ fn line(shown: Shown) -> [u8; 9]
     let (best, second) = shown.numbers();
     if best > 0 {
         let comma = width(best);
-        write(&mut text, comma, best, b"0123456789");
+        write(&mut text, comma, best, &LETTERS);
         text[comma] = b',';
         let end = comma + 1 + width(second);
-        write(&mut text, end, second, b"0123456789");
+        write(&mut text, end, second, &LETTERS);
     }
     text
 }
@@ -89,8 +92,8 @@ fn guess(text: &[u8; 9]) -> Shown
     ensures proper { λ r. ⌜ proper r ≡ true ⌝ }
 {
     let comma = first_place(text, b',');
-    let best = read(&text[0..comma], b"0123456789");
-    let second = read(&text[comma..9], b"0123456789");
+    let best = read(&text[0..comma], &LETTERS);
+    let second = read(&text[comma..9], &LETTERS);
     Shown::from_numbers(best, second)
 }
 
