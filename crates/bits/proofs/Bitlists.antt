@@ -2,11 +2,11 @@
 use mathlib.Core.Path.{_≡_, refl, sym, ap, subst, _∙_}
 use mathlib.Core.Logic.{⊎-elim}
 use mathlib.Core.List.{List, [], _∷_, _++_, map}
-use mathlib.Core.Bool.{Bool, true, false, cond, not}
+use mathlib.Core.Bool.{Bool, true, false, not}
 use Prim.Native.Nat.{ℕ, zero, suc, _+_, _-_, _<_, _≤_, min}
 use native.Mathlib.Omega.{arith}
 use native.Mathlib.Numerals.{add-one}
-use lib.ListN.{length, take, drop, getD}
+use lib.ListN.{length, take, drop}
 use Rattle.std.specs.Finite.{nth}
 use Rattle.std.specs.Options.{valueOr, mapped, Cases}
 use Rattle.std.specs.declared.option.Option.{Option}
@@ -16,7 +16,7 @@ use Rattle.std.proofs.shelf.Tests.{cases-lt}
 use Rattle.std.specs.Orderings.{Decides}
 use Rattle.std.proofs.shelf.Ways.{decides-like}
 use Rattle.bits.specs.Laws.{Agrees}
-use Rattle.bits.specs.Bits.{one, ones, rankOf, bitAt, Select}
+use Rattle.bits.specs.Bits.{one, ones, rankOf, Select}
 
 -- is the bit at i there and set?
 abbrev pub set-at : List Bool → ℕ → Bool
@@ -46,14 +46,6 @@ pub ones-le-length : (bs : List Bool) → ones bs ≤ length bs
 ones-le-length [] = omega arith
 ones-le-length (true ∷ bs) = omega (arith, ones-le-length bs)
 ones-le-length (false ∷ bs) = omega (arith, ones-le-length bs)
-
-of-value : (o : Option Bool) → valueOr o false ≡ true → o ≡ Some true
-of-value None e = cc
-of-value (Some b) e = ap Some e
-
--- a set bit that `valueOr` has found
-pub found-set : (bs : List Bool) (i : ℕ) (b : Bool) → b ≡ set-at bs i → b ≡ true → nth bs i ≡ Some true
-found-set bs i b e t = of-value (nth bs i) (sym e ∙ t)
 
 -- the step of a loop over the bits, by the bit that `valueOr` has read
 pub rank-yes : (bs : List Bool) (i : ℕ) (b : Bool) → b ≡ set-at bs i → b ≡ true → rankOf bs (i + 1) ≡ rankOf bs i + 1
@@ -116,35 +108,8 @@ take-both p m xs =
     (λ (h : m ≤ p). take-all p (take m xs) (omega (arith, length-take m xs)) ∙ ap (λ j. take j xs) (let f : m ≡ min p m = omega arith in f))
     (cases-lt p m)
 
-pub rank-skip : (s k : ℕ) (bs : List Bool) → rankOf bs (s + k) ≡ rankOf bs s + rankOf (drop s bs) k
-rank-skip zero k bs = ap (λ j. rankOf bs j) (let e : 0 + k ≡ k = omega arith in e) ∙ (let e : rankOf bs k ≡ 0 + rankOf bs k = omega arith in e)
-rank-skip (suc s) zero [] = ap (λ j. rankOf [] j) (let e : suc s + 0 ≡ suc s = omega arith in e)
-rank-skip (suc s) (suc k) [] = ap (λ j. rankOf [] j) (let e : suc s + suc k ≡ suc (s + suc k) = omega arith in e)
-rank-skip (suc s) k (true ∷ bs) =
-    let i = rank-skip s k bs in
-    ap (λ j. rankOf (true ∷ bs) j) (let e : suc s + k ≡ suc (s + k) = omega arith in e) ∙ omega (arith, i)
-rank-skip (suc s) k (false ∷ bs) =
-    let i = rank-skip s k bs in
-    ap (λ j. rankOf (false ∷ bs) j) (let e : suc s + k ≡ suc (s + k) = omega arith in e) ∙ i
-
 pub length-window : (most from : ℕ) (bs : List Bool) → length (take most (drop from bs)) ≡ min (length bs - from) most
 length-window most from bs = omega (arith, length-take most (drop from bs), length-drop from bs)
-
--- the ones of a window are those between two places below
-pub rank-window : (most from p s e : ℕ) (bs : List Bool) → s ≡ min from (length bs) → e ≡ s + min p (min (length bs - from) most) → rankOf (take most (drop from bs)) p + rankOf bs s ≡ rankOf bs e
-rank-window most from p s e bs f g =
-    let k = min p (min (length bs - from) most) in
-    let d : drop s bs ≡ drop from bs =
-    ⊎-elim
-    (λ (h : from < length bs). ap (λ j. drop j bs) (let x : s ≡ from = omega arith in x))
-    (λ (h : length bs ≤ from). drop-all s bs (omega arith) ∙ sym (drop-all from bs h))
-    (cases-lt from (length bs)) in
-    let t : take p (take most (drop from bs)) ≡ take k (drop from bs) =
-    take-both p most (drop from bs) ∙ take-exact (min p most) k (drop from bs) (omega (arith, length-drop from bs)) in
-    let a = ap ones t in
-    let b : rankOf (drop s bs) k ≡ rankOf (drop from bs) k = ap (λ (x : List Bool). rankOf x k) d in
-    let c = ap (λ j. rankOf bs j) g ∙ rank-skip s k bs in
-    omega (arith, a, b, c)
 
 -- ---- select has one answer
 

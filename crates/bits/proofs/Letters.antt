@@ -4,10 +4,10 @@ use mathlib.Core.List.{List, [], _∷_, _++_, map}
 use mathlib.Core.Bool.{Bool, true, false}
 use Rattle.std.specs.declared.result.Result.{Result}
 use Rattle.std.specs.declared.result.Result.the-variants.{Ok, Err}
-use Prim.Native.Nat.{ℕ, _+_, _<_, _≤_, min}
+use Prim.Native.Nat.{ℕ, _+_, _<_, min}
 use native.Mathlib.Omega.{arith}
-use lib.ListN.{length, take, getD, set}
-use Rattle.std.proofs.shelf.Lists.{length-map, length-take, take-more-set, map-push, take-take, take-all}
+use lib.ListN.{length, take, set}
+use Rattle.std.proofs.shelf.Lists.{length-map, length-take, take-more-set, map-push, take-all}
 use Rattle.bits.proofs.Bitlists.{take-both, take-exact}
 use Rattle.bits.specs.Bits.{isOpen, lettered}
 use Rattle.bits.specs.Punching.{Appends, letter, letters}
@@ -39,7 +39,7 @@ letters-exact text n k e =
     take-both 32768 k text ∙ take-exact (min 32768 k) k text (omega arith) ∙ sym (take-both 32768 n text ∙ take-exact (min 32768 n) k text (omega arith)) in
     ap (λ x. map isOpen x) f
 
--- an append has room where the bits are fewer than it
+-- for code over any punch: an append is accepted where the bits are fewer than the capacity
 pub appended : {E : Type 0} (r : Result (Unit {0}) E) (room : ℕ) (before after : List Bool) (bit : Bool) → Appends r room before after bit → length before < room → after ≡ before ++ bit ∷ []
 appended (Ok u) room before after bit a h = a .1
 appended (Err e) room before after bit a h = absurd (omega (arith, a .0))

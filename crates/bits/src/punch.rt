@@ -17,14 +17,16 @@ pub struct Full;
 
 /// The bits written so far, and a fixed capacity.
 pub trait Punch {
+    // The bits written so far.
     ghost written: { Self → List Bool };
 
-    // How many bits there is room for in all.
+    // The capacity.
     ghost room: { Self → ℕ };
 
     // Which memory it writes: the ghost name of a mutable reference, which no call changes.
     ghost home: { Self → ℕ };
 
+    /// How many bits there is room for in all.
     fn capacity(&self) -> usize
         ensures { λ r. ⌜ r ≡ room (now (self .entry)) ⌝ };
 

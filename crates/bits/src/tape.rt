@@ -3,7 +3,7 @@
 ghost use mathlib.Core.Path.{_≡_};
 ghost use mathlib.Core.List.{List};
 ghost use mathlib.Core.Bool.{Bool, true};
-ghost use Prim.Native.Nat.{ℕ, _≤_};
+ghost use Prim.Native.Nat.{_≤_};
 ghost use lib.ListN.{length};
 ghost use denote.Ref.{now};
 ghost use Rattle.std.specs.Orderings.{Decides};
@@ -15,6 +15,7 @@ pub const MOST_BITS: usize = 32_768;
 
 /// A fixed list of at most 32,768 bits, numbered from 0.
 pub trait Tape {
+    // The list that every answer is about.
     ghost bits: { Self → List Bool };
 
     /// How many bits there are.

@@ -44,8 +44,7 @@ pub impl<T: Tape> Tape for Window<T> as WindowTape {
     ghost bits = { λ t. take (t .most) (drop (t .from) (T·Tape .bits (t .below))) };
 
     fn len(&self) -> usize {
-        let rest = self.below.len().saturating_sub(self.from);
-        rest.min(self.most)
+        self.below.len().saturating_sub(self.from).min(self.most)
     }
 
     fn get(&self, p: usize) -> Option<bool> {

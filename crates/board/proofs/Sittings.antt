@@ -129,11 +129,12 @@ module _ (v : Result ℕ Refusal) (b : ℕ → ℕ → Bool) where
       ∙ ap (λ z. pageShows b z start size) (lots-then v b (idle ss) f)
 
 -- a sitting that ran so went as it should
-pub sat : (v : Result ℕ Refusal) (b : ℕ → ℕ → Bool) (ss : List Shown) (s : Sitting) → shows v b (idle ss) (s .calls) .shown ≡ s .shown → shows v b (idle ss) (s .calls) .answers ≡ s .answers → Sat b v s
-sat v b ss s shown answers =
+pub sat : (v : Result ℕ Refusal) (b : ℕ → ℕ → Bool) (s : Sitting) → shows v b (idle (s .before)) (s .calls) .shown ≡ s .shown → shows v b (idle (s .before)) (s .calls) .answers ≡ s .answers → Sat b v s
+sat v b s shown answers =
+    let ss = s .before in
     let many : length ss ≡ length (s .shown) = sym (shows-panels v b (idle ss) (s .calls)) ∙ ap length shown in
     let said : (f g : List BoardCall) (c : BoardCall) (a : Result BoardReply Refusal) → (h : Answers s f c g a) → shows v b (idle ss) (f ++ c ∷ g) .answers ≡ h .earlier ++ a ∷ h .later =
-        λ f g c a h. ap (λ z. shows v b (idle ss) z .answers) (sym (h .calls-are)) ∙ answers ∙ h .answers-are in
+    λ f g c a h. ap (λ z. shows v b (idle ss) z .answers) (sym (h .calls-are)) ∙ answers ∙ h .answers-are in
     record {
       takes = λ f g a h. take-says v b (idle ss) refl f g (h .earlier) (h .later) a (said f g Take a h) (h .in-step);
       pages = λ f g p start size a h.
@@ -141,6 +142,8 @@ sat v b ss s shown answers =
           ∙ ap (λ z. cond (ltb p z) (pageAnswer (pageReply (lotsAfter v f) start size)) (Err (refusal 0 []))) many;
       shows = λ f g p start size calls spare lt.
           ap (λ z. getD z p Blank) (sym shown ∙ ap (λ z. shows v b (idle ss) z .shown) calls) ∙ last-page v b ss f g p start size spare (omega arith);
+      spares = λ p spare. ap (λ z. getD z p Blank) (sym shown) ∙ spared v b p Blank (idle ss) (s .calls) spare;
+      panels = sym many;
     }
 
 -- the verdict on the sheet of an order, and what a board that has taken it knows

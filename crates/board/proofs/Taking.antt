@@ -25,4 +25,3 @@ taken-when r bits e n = (
   λ h. accepted-exactly-when-cast bits n .0 (sym e ∙ ap (answered told) h),
   λ h. was-ok r n (e ∙ accepted-exactly-when-cast bits n .1 h),
 )
-

@@ -19,14 +19,15 @@ use Rattle.board.specs.declared.call.BoardReply.{BoardReply}
 use Rattle.board.specs.Pages.{lotsBy, pageReply, pageShows}
 use Rattle.board.specs.Showing.{takeAnswer, pageAnswer}
 
--- The calls on a new board as they were performed; the answers, and what the panels show after them.
+-- What the panels showed before; the calls on a new board as they were performed; the answers, and what the panels show after them.
 pub record Sitting : Type 0 where
+  pub before : List Shown
   pub calls : List BoardCall
   pub answers : List (Result BoardReply Refusal)
   pub shown : List Shown
 
-abbrev pub sitting : List BoardCall → List (Result BoardReply Refusal) → List Shown → Sitting
-sitting cs rs ss = record { calls = cs; answers = rs; shown = ss }
+abbrev pub sitting : List Shown → List BoardCall → List (Result BoardReply Refusal) → List Shown → Sitting
+sitting bs cs rs ss = record { before = bs; calls = cs; answers = rs; shown = ss }
 
 -- One of the calls is a take.
 abbrev pub anyTake : List BoardCall → Bool
@@ -54,10 +55,12 @@ pub record Answers (s : Sitting) (f : List BoardCall) (c : BoardCall) (g : List 
 
 -- A sitting over a tape with the verdict v, for lots in the order b. Every take answers as the verdict says. A page is refused with 11 before
 -- the first take that is accepted, then exactly as 12 says; one that names no panel is answered as such. The last page on a panel shows there
--- the best and the second of its range in the order b, or leaves it blank where it was refused.
+-- the best and the second of its range in the order b, or leaves it blank where it was refused. A panel with no page remains.
 pub record Sat (b : ℕ → ℕ → Bool) (v : Result ℕ Refusal) (s : Sitting) : Type 0 where
   pub takes : (f g : List BoardCall) (a : Result BoardReply Refusal) → Answers s f Take g a → a ≡ takeAnswer v
   pub pages : (f g : List BoardCall) (p start size : ℕ) (a : Result BoardReply Refusal) → Answers s f (Page p start size) g a →
       a ≡ cond (ltb p (length (s .shown))) (pageAnswer (pageReply (lotsAfter v f) start size)) (Err (refusal 0 []))
   pub shows : (f g : List BoardCall) (p start size : ℕ) → s .calls ≡ f ++ Page p start size ∷ g → Spared p g → p < length (s .shown) →
       getD (s .shown) p Blank ≡ pageShows b (lotsAfter v f) start size
+  pub spares : (p : ℕ) → Spared p (s .calls) → getD (s .shown) p Blank ≡ getD (s .before) p Blank
+  pub panels : length (s .shown) ≡ length (s .before)

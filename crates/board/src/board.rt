@@ -78,6 +78,10 @@ fn find<T: Tape>(tape: &T, lots: Option<u32>, start: u32, size: u32) -> Result<P
     if start == 0 || start > n || size == 0 {
         return Err(BoardFault::NoPage);
     }
-    let last = if size > n - start { n } else { start + size - 1 };
+    let last = if size > n - start {
+        n
+    } else {
+        start + size - 1
+    };
     Ok(pair_of(tape, n, start, last))
 }

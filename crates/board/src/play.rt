@@ -44,7 +44,11 @@ fn paged(reply: Result<(), BoardFault>) -> Result<BoardReply, TurnFault>
 }
 
 /// Performs one call on a board, beside some panels.
-pub fn perform<T: Tape, D: Panel>(board: &mut Board<T>, panels: &mut [D], call: &BoardCall) -> Result<BoardReply, TurnFault>
+pub fn perform<T: Tape, D: Panel>(
+    board: &mut Board<T>,
+    panels: &mut [D],
+    call: &BoardCall,
+) -> Result<BoardReply, TurnFault>
     ensures tape { λ _. ⌜ now (board .exit) .tape ≡ now (board .entry) .tape ⌝ }
     ensures turns { λ r. ⌜ ((b : ℕ → ℕ → Bool) → Knows b (now (board .entry) .lots) (T·Tape .bits (now (board .entry) .tape)) → turn (now (board .exit) .lots) (map (D·Panel .shows) (now (panels .exit))) (answered told r) ≡ turnOf (verdict (T·Tape .bits (now (board .entry) .tape))) b (now (board .entry) .lots) (map (D·Panel .shows) (now (panels .entry))) (now (call .entry))) ⌝ }
 {
@@ -86,8 +90,8 @@ pub fn play_board<T: Tape + Drop, D: Panel>(
     calls: &[BoardCall],
     heap: Global,
 ) -> Result<Vec<Result<BoardReply, TurnFault>>, AllocError>
-    ensures sat { λ r. ⌜ when-made r (λ v. (b : ℕ → ℕ → Bool) → Knows b (lotsBy (verdict (T·Tape .bits tape))) (T·Tape .bits tape) → Sat b (verdict (T·Tape .bits tape)) (sitting (now (calls .entry)) (map (answered told) (vec-items v)) (map (D·Panel .shows) (now (panels .exit))))) ⌝ }
-    ensures leads { λ r. ⌜ when-made r (λ v. (b : ℕ → ℕ → Bool) → Strict b → (n : ℕ) → n ≤ 4000 → sheet b n ≡ T·Tape .bits tape → Sat b (Ok n) (sitting (now (calls .entry)) (map (answered told) (vec-items v)) (map (D·Panel .shows) (now (panels .exit))))) ⌝ }
+    ensures sat { λ r. ⌜ when-made r (λ v. (b : ℕ → ℕ → Bool) → Knows b (lotsBy (verdict (T·Tape .bits tape))) (T·Tape .bits tape) → Sat b (verdict (T·Tape .bits tape)) (sitting (map (D·Panel .shows) (now (panels .entry))) (now (calls .entry)) (map (answered told) (vec-items v)) (map (D·Panel .shows) (now (panels .exit))))) ⌝ }
+    ensures leads { λ r. ⌜ when-made r (λ v. (b : ℕ → ℕ → Bool) → Strict b → (n : ℕ) → n ≤ 4000 → sheet b n ≡ T·Tape .bits tape → Sat b (Ok n) (sitting (map (D·Panel .shows) (now (panels .entry))) (now (calls .entry)) (map (answered told) (vec-items v)) (map (D·Panel .shows) (now (panels .exit))))) ⌝ }
     ensures unplayed { λ r. ⌜ refused r (λ _. now (panels .exit) ≡ now (panels .entry)) ⌝ }
 {
     let answers = Vec::with_capacity(heap, calls.len())?;

@@ -58,3 +58,12 @@ set-same (x ∷ xs) (suc i) d lt = ap (λ ys. x ∷ ys) (set-same xs i d (omega 
 pub rooms-kept : {P : Type 0} (room : P → ℕ) (ps : List P) (p : ℕ) (d q : P) → p < length ps → d ≡ getD ps p d → room q ≡ room d → map room (set ps p q) ≡ map room ps
 rooms-kept room ps p d q lt at e =
     map-set room ps p q ∙ ap (λ z. set (map room ps) p z) (e ∙ ap room at ∙ sym (getD-map room ps p d 0 lt)) ∙ set-same (map room ps) p 0 (simp length-map lt)
+
+-- lists that agree from m on, with the same list behind, agree from any later place on
+pub drop-joined : {X : Type 0} (m k : ℕ) (xs ys zs : List X) → length xs ≡ length ys → m ≤ k → drop m xs ≡ drop m ys → drop k (xs ++ zs) ≡ drop k (ys ++ zs)
+drop-joined zero k xs ys zs n h e = ap (λ ws. drop k (ws ++ zs)) e
+drop-joined (suc m) zero xs ys zs n h e = absurd (omega arith)
+drop-joined (suc m) (suc k) [] [] zs n h e = refl
+drop-joined (suc m) (suc k) [] (y ∷ ys) zs n h e = absurd (omega arith)
+drop-joined (suc m) (suc k) (x ∷ xs) [] zs n h e = absurd (omega arith)
+drop-joined (suc m) (suc k) (x ∷ xs) (y ∷ ys) zs n h e = drop-joined m k xs ys zs (omega arith) (omega arith) e

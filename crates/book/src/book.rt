@@ -111,7 +111,9 @@ impl<'a, K: Key + Copy> Book<'a, K> {
         ensures kept { λ _. ⌜ (length (now (work .entry)) < 4 * suc (length (keysIn (now (self .entry)))) → now (work .exit) ≡ now (work .entry)) ⌝ }
     {
         let n = self.len() as usize;
-        let lots = KeyLots { keys: &self.list[0..n] };
+        let lots = KeyLots {
+            keys: &self.list[0..n],
+        };
         let bits = cast(&lots, punch, work)?;
         Ok(bits)
     }

@@ -3,7 +3,7 @@
 ghost use mathlib.Core.Path.{_≡_};
 ghost use mathlib.Core.List.{[], map};
 ghost use Prim.Native.Nat.{_≤_};
-ghost use lib.ListN.{length, take};
+ghost use lib.ListN.{length, take, drop};
 ghost use denote.Ref.{name};
 ghost use Rattle.std.specs.Of.Vec.{vec-items, vec-len, vec-cap};
 ghost use Rattle.std.specs.Vec.{made as when-made, refused};
@@ -39,6 +39,7 @@ pub fn perform<K: Key + Copy, P: Punch>(
 ) -> Result<u32, CallFault>
     ensures steps { λ r. ⌜ step (keysIn (now (book .exit))) (map (P·Punch .written) (now (punches .exit))) (answered told r) ≡ stepOf (terms (K·Key .made) (K·Key .atLeast) (roomFor (length (now (now (book .entry) .list)))) (map (P·Punch .room) (now (punches .entry))) (length (now (work .entry)))) (keysIn (now (book .entry))) (map (P·Punch .written) (now (punches .entry))) (now (call .entry)) ⌝ }
     ensures rooms { λ _. ⌜ map (P·Punch .room) (now (punches .exit)) ≡ map (P·Punch .room) (now (punches .entry)) ⌝ }
+    ensures rest { λ _. ⌜ drop 16004 (now (work .exit)) ≡ drop 16004 (now (work .entry)) ⌝ }
     ensures kept { λ _. ⌜ length (now (now (book .exit) .list)) ≡ length (now (now (book .entry) .list)) ⌝ }
     ensures lender { λ _. ⌜ name (now (book .exit) .list) ≡ name (now (book .entry) .list) ⌝ }
 {
@@ -69,6 +70,7 @@ fn play_into<K: Key + Copy, P: Punch>(
     requires room { ⌜ length (now calls) ≤ vec-cap answers ⌝ }
     ensures ledger { λ r. ⌜ ledger (take (length (after (terms (K·Key .made) (K·Key .atLeast) (roomFor (length (now (list .entry)))) (map (P·Punch .room) (now (punches .entry))) (length (now (work .entry)))) (blank (map (P·Punch .written) (now (punches .entry)))) (now (calls .entry)) .lots)) (now (list .exit))) (map (P·Punch .written) (now (punches .exit))) (map (answered told) (vec-items r)) ≡ after (terms (K·Key .made) (K·Key .atLeast) (roomFor (length (now (list .entry)))) (map (P·Punch .room) (now (punches .entry))) (length (now (work .entry)))) (blank (map (P·Punch .written) (now (punches .entry)))) (now (calls .entry)) ⌝ }
     ensures rooms { λ _. ⌜ map (P·Punch .room) (now (punches .exit)) ≡ map (P·Punch .room) (now (punches .entry)) ⌝ }
+    ensures rest { λ _. ⌜ drop 16004 (now (work .exit)) ≡ drop 16004 (now (work .entry)) ⌝ }
 {
     let mut book = Book::new(list);
     for call in calls {
@@ -88,6 +90,7 @@ pub fn play_book<K: Key + Copy, P: Punch>(
 ) -> Result<Vec<Result<u32, CallFault>>, AllocError>
     ensures ledger { λ r. ⌜ when-made r (λ v. ledger (take (length (after (terms (K·Key .made) (K·Key .atLeast) (roomFor (length (now (list .entry)))) (map (P·Punch .room) (now (punches .entry))) (length (now (work .entry)))) (blank (map (P·Punch .written) (now (punches .entry)))) (now (calls .entry)) .lots)) (now (list .exit))) (map (P·Punch .written) (now (punches .exit))) (map (answered told) (vec-items v)) ≡ after (terms (K·Key .made) (K·Key .atLeast) (roomFor (length (now (list .entry)))) (map (P·Punch .room) (now (punches .entry))) (length (now (work .entry)))) (blank (map (P·Punch .written) (now (punches .entry)))) (now (calls .entry))) ⌝ }
     ensures rooms { λ _. ⌜ map (P·Punch .room) (now (punches .exit)) ≡ map (P·Punch .room) (now (punches .entry)) ⌝ }
+    ensures rest { λ _. ⌜ drop 16004 (now (work .exit)) ≡ drop 16004 (now (work .entry)) ⌝ }
     ensures unplayed { λ r. ⌜ refused r (λ _. (now (list .exit) ≡ now (list .entry)) × (now (punches .exit) ≡ now (punches .entry)) × (now (work .exit) ≡ now (work .entry))) ⌝ }
 {
     let answers = Vec::with_capacity(heap, calls.len())?;

@@ -10,7 +10,9 @@ use std::io::Write;
 
 /// The places of the book, the bits of the punch, and the working numbers that 4,000 lots need.
 const PLACES: usize = 4_000;
+
 const BITS: usize = 14_000;
+
 const NUMBERS: usize = 16_004;
 
 /// Adds the prices on standard input to the book, and tells of each line that is none.
@@ -46,7 +48,10 @@ fn tell_sheet(rt: &LibcRuntime, book: &Book<'_, Price>) -> Result<(), AnyError> 
             let brackets = 2 * u64::from(lots) + 2;
             let spines = u64::from(bits).saturating_sub(brackets);
             println!(rt, "Lots in the book: {lots}")?;
-            println!(rt, "Bits in the sheet: {bits}, of which {brackets} are brackets and {spines} spines")?;
+            println!(
+                rt,
+                "Bits in the sheet: {bits}, of which {brackets} are brackets and {spines} spines"
+            )?;
             let end = (bits as usize).min(letters.len());
             rt.stdout().write_all(&letters[0..end])?;
             println!(rt, "")?;

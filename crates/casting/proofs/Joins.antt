@@ -49,10 +49,10 @@ module _ (b : ℕ → ℕ → Bool) (s : Strict b) where
       let up : (m : ℕ) → x < m → m ≤ k - 1 → b x m ≡ true = λ m u v. elim (c .top) [
         | inl z ↦ absurd (omega arith)
         | inr z ↦
-          let on = c .hangs (omega (arith, z .from)) in
-          let g : Highest b last (last - 1) x = subst (Highest b last (last - 1)) on (parent-is b last) in
-          let f : b x last ≡ true = elim (g .beats) [ inl i ↦ absurd (d i) | inr i ↦ i ] in
-          elim (cases-eq m last) [ inl i ↦ rw i f | inr i ↦ s .transitive x last m f (z .over m u v i) ]
+            let on = c .hangs (omega (arith, z .from)) in
+            let g : Highest b last (last - 1) x = subst (Highest b last (last - 1)) on (parent-is b last) in
+            let f : b x last ≡ true = elim (g .beats) [ inl i ↦ absurd (d i) | inr i ↦ i ] in
+            elim (cases-eq m last) [ inl i ↦ rw i f | inr i ↦ s .transitive x last m f (z .over m u v i) ]
       ] in
       record {
         below = omega (arith, c .below);
@@ -94,17 +94,17 @@ link-step b n m up left right kids h lu ll lr lk f x v e d t = record {
   first = getD-set-other left (suc m) 0 v 0 (omega arith) ∙ h .first;
   lefts = λ k p q. elim (cases-eq k (suc m)) [
     | inl z ↦
-      let g = getD-set-same left (suc m) v 0 (omega arith) in
-      let i : suc m - 1 ≡ m = omega arith in
-      rw (z, g, i, ← e) t
+        let g = getD-set-same left (suc m) v 0 (omega arith) in
+        let i : suc m - 1 ≡ m = omega arith in
+        rw (z, g, i, ← e) t
     | inr z ↦ let g = getD-set-other left (suc m) k v 0 z in rw g (h .lefts k p (omega arith))
   ];
   rights = λ y q. cond-both (eqb (parent b (suc m)) y) (suc m) (lastChild b y m) (λ z. getD (set right x (suc m)) y 0 ≡ z)
-    (λ i. let j : y ≡ x = sym (e ∙ eqb-true (parent b (suc m)) y i) in rw j (getD-set-same right x (suc m) 0 (omega arith)))
-    (λ i. getD-set-other right x y (suc m) 0 (λ j. eqb-false (parent b (suc m)) y i (sym e ∙ sym j)) ∙ h .rights y q);
+      (λ i. let j : y ≡ x = sym (e ∙ eqb-true (parent b (suc m)) y i) in rw j (getD-set-same right x (suc m) 0 (omega arith)))
+      (λ i. getD-set-other right x y (suc m) 0 (λ j. eqb-false (parent b (suc m)) y i (sym e ∙ sym j)) ∙ h .rights y q);
   counts = λ y q. back (tally-more (λ i. eqb (parent b i) y) 1 m (suc m) (omega arith)) (cond-both (eqb (parent b (suc m)) y) (suc (childrenTo b y m)) (childrenTo b y m) (λ z. getD (set kids x (getD kids x 0 + 1)) y 0 ≡ z)
-    (λ i. let j : y ≡ x = sym (e ∙ eqb-true (parent b (suc m)) y i) in rw j (getD-set-same kids x (getD kids x 0 + 1) 0 (omega arith) ∙ omega (arith, h .counts x (omega arith))))
-    (λ i. getD-set-other kids x y (getD kids x 0 + 1) 0 (λ j. eqb-false (parent b (suc m)) y i (sym e ∙ sym j)) ∙ h .counts y q));
+      (λ i. let j : y ≡ x = sym (e ∙ eqb-true (parent b (suc m)) y i) in rw j (getD-set-same kids x (getD kids x 0 + 1) 0 (omega arith) ∙ omega (arith, h .counts x (omega arith))))
+      (λ i. getD-set-other kids x y (getD kids x 0 + 1) 0 (λ j. eqb-false (parent b (suc m)) y i (sym e ∙ sym j)) ∙ h .counts y q));
 }
   where
     back : {a c d : ℕ} → c ≡ d → a ≡ d → a ≡ c

@@ -82,8 +82,8 @@ module _ (b : ℕ → ℕ → Bool) (s : Strict b) (n : ℕ) where
         none = λ z p q e. elim (cases-lt (root o l + size (node l1 w1 r1)) z) [
           | inl h ↦ none-after b s n o l w (node l1 w1 r1) c z h q e
           | inr h ↦
-            let g : Highest b z (z - 1) (root o l) = subst (Highest b z (z - 1)) e (parent-is b z) in
-            both-ways (b (root (root o l) l1) z) (g .none (root (root o l) l1) (omega arith) (omega arith)) (f .2 .0 .over z (omega arith) (omega arith) (omega arith))
+              let g : Highest b z (z - 1) (root o l) = subst (Highest b z (z - 1)) e (parent-is b z) in
+              both-ways (b (root (root o l) l1) z) (g .none (root (root o l) l1) (omega arith) (omega arith)) (f .2 .0 .over z (omega arith) (omega arith) (omega arith))
         ];
       }
 
@@ -124,13 +124,13 @@ module _ (b : ℕ → ℕ → Bool) (s : Strict b) (n : ℕ) (up left right kids
   walks-of o leaf f c k p q = absurd (omega arith)
   walks-of o (node l w r) f c k p q = elim (cases-order k (root o l)) [
     | inl e ↦ subst (TwoWalks b n left right) (sym e) (record {
-        xs = spineR o l;
-        ys = spineL (root o l) r;
-        lower = subst (λ i. Chain right i (spineR o l)) (sym (left-is b s n up left right kids h o l w r f c)) (chainR b s n up left right kids h o l (f .1) (within-left b n o l w r f c));
-        upper = subst (λ i. Chain left i (spineL (root o l) r)) (sym (right-is b s n up left right kids h o l w r f c)) (chainL b s n up left right kids h (root o l) r (f .2) (within-right b n o l w r f c));
-        merged = subst (λ v. Merged b v (spineR o l) (spineL (root o l) r)) (sym (full-word b s n o l w r f c)) (f .3);
-        kids = root-children b s n o l w r f c ∙ sym (spineL-length (root o l) r);
-      })
+      xs = spineR o l;
+      ys = spineL (root o l) r;
+      lower = subst (λ i. Chain right i (spineR o l)) (sym (left-is b s n up left right kids h o l w r f c)) (chainR b s n up left right kids h o l (f .1) (within-left b n o l w r f c));
+      upper = subst (λ i. Chain left i (spineL (root o l) r)) (sym (right-is b s n up left right kids h o l w r f c)) (chainL b s n up left right kids h (root o l) r (f .2) (within-right b n o l w r f c));
+      merged = subst (λ v. Merged b v (spineR o l) (spineL (root o l) r)) (sym (full-word b s n o l w r f c)) (f .3);
+      kids = root-children b s n o l w r f c ∙ sym (spineL-length (root o l) r);
+    })
     | inr (inl e) ↦ walks-of o l (f .1) (within-left b n o l w r f c) k p (omega arith)
     | inr (inr e) ↦ walks-of (root o l) r (f .2) (within-right b n o l w r f c) k e (omega arith)
   ]

@@ -54,7 +54,12 @@ impl CastFault {
 }
 
 /// Casts with exactly the working numbers that it takes.
-fn cast_in<L: Lots, P: Punch>(lots: &L, punch: &mut P, work: &mut [u32], n: usize) -> Result<u32, CastFault>
+fn cast_in<L: Lots, P: Punch>(
+    lots: &L,
+    punch: &mut P,
+    work: &mut [u32],
+    n: usize,
+) -> Result<u32, CastFault>
     requires count { ⌜ (n ≡ count (now lots)) × (n < 2 ^ 30) ⌝ }
     requires strict { ⌜ Strict (order (now lots)) ⌝ }
     requires numbers { ⌜ length (now work) ≡ 4 * (n + 1) ⌝ }

@@ -36,7 +36,14 @@ fn zero(xs: &mut [u32])
 }
 
 /// Links all lots.
-pub fn link<L: Lots>(lots: &L, up: &mut [u32], left: &mut [u32], right: &mut [u32], kids: &mut [u32], n: usize)
+pub fn link<L: Lots>(
+    lots: &L,
+    up: &mut [u32],
+    left: &mut [u32],
+    right: &mut [u32],
+    kids: &mut [u32],
+    n: usize,
+)
     requires count { ⌜ (n ≡ count (now lots)) × (n < 2 ^ 30) ⌝ }
     requires strict { ⌜ Strict (order (now lots)) ⌝ }
     requires lengths { ⌜ (length (now up) ≡ suc n) × (length (now left) ≡ suc n) × (length (now right) ≡ suc n) × (length (now kids) ≡ suc n) ⌝ }

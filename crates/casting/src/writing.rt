@@ -35,7 +35,14 @@ fn steps(next: &[u32], start: u32, n: usize) -> usize
 }
 
 /// Writes how many symbols each lot's word has, and gives their sum.
-fn measure<L: Lots>(lots: &L, sizes: &mut [u32], left: &[u32], right: &[u32], kids: &[u32], n: usize) -> usize
+fn measure<L: Lots>(
+    lots: &L,
+    sizes: &mut [u32],
+    left: &[u32],
+    right: &[u32],
+    kids: &[u32],
+    n: usize,
+) -> usize
     requires lengths { ⌜ (length (now sizes) ≡ suc n) × (length (now left) ≡ suc n) × (length (now right) ≡ suc n) × (length (now kids) ≡ suc n) ⌝ }
     requires ready { ⌜ Ready (order (now lots)) n (now left) (now right) (now kids) ⌝ }
     requires few { ⌜ n < 2 ^ 30 ⌝ }
@@ -85,7 +92,14 @@ fn turns<L: Lots>(lots: &L, i: u32, j: u32) -> bool
 }
 
 /// Punches the first `size` symbols of the merged walks from `i` along right and from `j` along left.
-fn punch_word<L: Lots, P: Punch>(lots: &L, punch: &mut P, left: &[u32], right: &[u32], from: (u32, u32), size: u32)
+fn punch_word<L: Lots, P: Punch>(
+    lots: &L,
+    punch: &mut P,
+    left: &[u32],
+    right: &[u32],
+    from: (u32, u32),
+    size: u32,
+)
     requires lengths { ⌜ (length (now left) ≡ suc (count (now lots))) × (length (now right) ≡ suc (count (now lots))) ⌝ }
     requires from { ⌜ (from .0 ≤ count (now lots)) × (from .1 ≤ count (now lots)) ⌝ }
     requires lowers { ⌜ AtMost (count (now lots)) (now left) ⌝ }
@@ -109,7 +123,15 @@ fn punch_word<L: Lots, P: Punch>(lots: &L, punch: &mut P, left: &[u32], right: &
 }
 
 /// Punches the words of all lots.
-fn punch_words<L: Lots, P: Punch>(lots: &L, punch: &mut P, sizes: &[u32], left: &[u32], right: &[u32], kids: &[u32], n: usize)
+fn punch_words<L: Lots, P: Punch>(
+    lots: &L,
+    punch: &mut P,
+    sizes: &[u32],
+    left: &[u32],
+    right: &[u32],
+    kids: &[u32],
+    n: usize,
+)
     requires count { ⌜ (n ≡ count (now lots)) × (n < 2 ^ 30) ⌝ }
     requires lengths { ⌜ (length (now sizes) ≡ suc n) × (length (now left) ≡ suc n) × (length (now right) ≡ suc n) ⌝ }
     requires ready { ⌜ Ready (order (now lots)) n (now left) (now right) (now kids) ⌝ }
@@ -125,7 +147,15 @@ fn punch_words<L: Lots, P: Punch>(lots: &L, punch: &mut P, sizes: &[u32], left: 
 }
 
 /// Punches the sheet of linked lots, for which there is room.
-fn punch_sheet<L: Lots, P: Punch>(lots: &L, punch: &mut P, sizes: &[u32], left: &[u32], right: &[u32], kids: &[u32], n: usize)
+fn punch_sheet<L: Lots, P: Punch>(
+    lots: &L,
+    punch: &mut P,
+    sizes: &[u32],
+    left: &[u32],
+    right: &[u32],
+    kids: &[u32],
+    n: usize,
+)
     requires count { ⌜ (n ≡ count (now lots)) × (n < 2 ^ 30) ⌝ }
     requires lengths { ⌜ (length (now sizes) ≡ suc n) × (length (now left) ≡ suc n) × (length (now right) ≡ suc n) ⌝ }
     requires ready { ⌜ Ready (order (now lots)) n (now left) (now right) (now kids) ⌝ }
@@ -142,7 +172,15 @@ fn punch_sheet<L: Lots, P: Punch>(lots: &L, punch: &mut P, sizes: &[u32], left: 
 }
 
 /// Punches the sheet of linked lots, if there is room for it.
-pub fn punch_linked<L: Lots, P: Punch>(lots: &L, punch: &mut P, up: &mut [u32], left: &[u32], right: &[u32], kids: &[u32], n: usize) -> Result<u32, CastFault>
+pub fn punch_linked<L: Lots, P: Punch>(
+    lots: &L,
+    punch: &mut P,
+    up: &mut [u32],
+    left: &[u32],
+    right: &[u32],
+    kids: &[u32],
+    n: usize,
+) -> Result<u32, CastFault>
     requires count { ⌜ (n ≡ count (now lots)) × (n < 2 ^ 30) ⌝ }
     requires strict { ⌜ Strict (order (now lots)) ⌝ }
     requires lengths { ⌜ (length (now up) ≡ suc n) × (length (now left) ≡ suc n) × (length (now right) ≡ suc n) × (length (now kids) ≡ suc n) ⌝ }

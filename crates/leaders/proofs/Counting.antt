@@ -159,8 +159,8 @@ module _ (b : ℕ → ℕ → Bool) (s : Strict b) where
   lefts-step n k h =
       let e : k + (n - k) ≡ n = omega arith in
       let cut : lefts b n (suc k) ≡ tally (inL b (suc k)) 1 k =
-          ap (tally (inL b (suc k)) 1) (sym e) ∙ tally-split (inL b (suc k)) 1 k (n - k)
-          ∙ omega (arith, tally-none (inL b (suc k)) (1 + k) (n - k) (λ m u v. elim (cases-bool (inL b (suc k) m)) [ inl g ↦ absurd (omega (arith, L-from-test b (suc k) m g .less)) | inr g ↦ g ])) in
+      ap (tally (inL b (suc k)) 1) (sym e) ∙ tally-split (inL b (suc k)) 1 k (n - k)
+      ∙ omega (arith, tally-none (inL b (suc k)) (1 + k) (n - k) (λ m u v. elim (cases-bool (inL b (suc k) m)) [ inl g ↦ absurd (omega (arith, L-from-test b (suc k) m g .less)) | inr g ↦ g ])) in
       let both = tally-add (inL b (suc k)) (λ i. isBest b i (suc k) i) (λ i. isBest b i k i) 1 k (λ m u v. kept-or-left k m u (omega arith)) in
       let last = tally-last (λ i. isBest b i (suc k) i) 1 k in
       let itself : isBest b (1 + k) (suc k) (1 + k) ≡ true = ap (λ z. isBest b z (suc k) z) (let g : 1 + k ≡ suc k = omega arith in g) ∙ best-alone (suc k) in
@@ -279,12 +279,17 @@ module _ (b : ℕ → ℕ → Bool) (s : Strict b) where
   children-below n zero = sym (tally-none (λ m. ltb (parent b m) 0) 1 n (λ m u v. grind (arith, tells)))
   children-below n (suc k) =
       let e : 0 + k ≡ k = omega arith in
-      omega (arith, total-last (children b n) 0 k, children-below n k, ap (children b n) e,
-      tally-add (λ m. ltb (parent b m) k) (λ m. eqb (parent b m) k) (λ m. ltb (parent b m) (suc k)) 1 n (λ m u v. elim (cases-order (parent b m) k) [
-        | inl f ↦ rw (lt-ltb (parent b m) (suc k) (omega arith), le-ltb (parent b m) k (omega arith), eq-eqb (parent b m) k f)
-        | inr (inl f) ↦ rw (lt-ltb (parent b m) (suc k) (omega arith), lt-ltb (parent b m) k f, ne-eqb (parent b m) k (omega arith))
-        | inr (inr f) ↦ rw (le-ltb (parent b m) (suc k) (omega arith), le-ltb (parent b m) k (omega arith), ne-eqb (parent b m) k (omega arith))
-      ]))
+      omega (
+        arith,
+        total-last (children b n) 0 k,
+        children-below n k,
+        ap (children b n) e,
+        tally-add (λ m. ltb (parent b m) k) (λ m. eqb (parent b m) k) (λ m. ltb (parent b m) (suc k)) 1 n (λ m u v. elim (cases-order (parent b m) k) [
+          | inl f ↦ rw (lt-ltb (parent b m) (suc k) (omega arith), le-ltb (parent b m) k (omega arith), eq-eqb (parent b m) k f)
+          | inr (inl f) ↦ rw (lt-ltb (parent b m) (suc k) (omega arith), lt-ltb (parent b m) k f, ne-eqb (parent b m) k (omega arith))
+          | inr (inr f) ↦ rw (le-ltb (parent b m) (suc k) (omega arith), le-ltb (parent b m) k (omega arith), ne-eqb (parent b m) k (omega arith))
+        ]),
+      )
 
   children-upto : (n k : ℕ) → k ≤ n → total (children b n) 0 k ≡ k + beyond n k
   unfolding beyond
@@ -293,12 +298,16 @@ module _ (b : ℕ → ℕ → Bool) (s : Strict b) where
       let f : ℕ → Bool = λ m. ltb m (suc k) in
       let e : k + (n - k) ≡ n = omega arith in
       let first : tally f 1 n ≡ k =
-          ap (tally f 1) (sym e) ∙ tally-split f 1 k (n - k)
-          ∙ omega (arith, tally-all f 1 k (λ m u v. lt-ltb m (suc k) (omega arith)), tally-none f (1 + k) (n - k) (λ m u v. le-ltb m (suc k) (omega arith))) in
-      children-below n k ∙ omega (arith, first, tally-add f g (λ m. ltb (parent b m) k) 1 n (λ m u v. elim (cases-lt k m) [
-        | inl z ↦ rw (lt-ltb k m z, le-ltb m (suc k) (omega arith)) (grind (arith, tells))
-        | inr z ↦ let below = parent-less m u in rw (le-ltb k m z, lt-ltb m (suc k) (omega arith), lt-ltb (parent b m) k (omega arith))
-      ]))
+      ap (tally f 1) (sym e) ∙ tally-split f 1 k (n - k)
+      ∙ omega (arith, tally-all f 1 k (λ m u v. lt-ltb m (suc k) (omega arith)), tally-none f (1 + k) (n - k) (λ m u v. le-ltb m (suc k) (omega arith))) in
+      children-below n k ∙ omega (
+        arith,
+        first,
+        tally-add f g (λ m. ltb (parent b m) k) 1 n (λ m u v. elim (cases-lt k m) [
+          | inl z ↦ rw (lt-ltb k m z, le-ltb m (suc k) (omega arith)) (grind (arith, tells))
+          | inr z ↦ let below = parent-less m u in rw (le-ltb k m z, lt-ltb m (suc k) (omega arith), lt-ltb (parent b m) k (omega arith))
+        ]),
+      )
 
   children-all : (n : ℕ) → total (children b n) 0 (suc n) ≡ n
   children-all n = children-below n (suc n) ∙ tally-all (λ m. ltb (parent b m) (suc n)) 1 n (λ m u v. let below = parent-less m u in lt-ltb (parent b m) (suc n) (omega arith))
@@ -315,7 +324,7 @@ module _ (b : ℕ → ℕ → Bool) (s : Strict b) where
         | inl e ↦ elim (cases-bool (inR b k m)) [ inr f ↦ rw (e, f) | inl f ↦ absurd (omega (arith, L-from-test b k m e .less, R-from-test b k m f .less)) ]
       ]) in
       let long : length (spineOf b n k) ≡ lefts b n k + children b n k - 1 =
-          dropLast-length (map (ltb k) zs) ∙ omega (arith, length-map zs (ltb k), ranked-length b side 1 n, apart, rights) in
+      dropLast-length (map (ltb k) zs) ∙ omega (arith, length-map zs (ltb k), ranked-length b side 1 n, apart, rights) in
       elim (cases-eq (lefts b n k) 0) [
         | inl e ↦ elim (cases-eq (children b n k) 0) [
           | inl f ↦ rw (eq-eqb (lefts b n k) 0 e, eq-eqb (children b n k) 0 f) (omega arith)
@@ -357,9 +366,17 @@ sheet-lengths b s n = record {
   before-spine = λ k h g.
       let m = k - 1 in
       let e : suc m ≡ k = omega arith in
-      omega (arith, spines-length b s n m, lefts-total b s n m (omega arith), subst (λ z. lefts b n z + ancestors b s z ≡ 1 + ancestors b s m) e (lefts-step b s n m (omega arith)),
-      first-child b s n m, subst (λ z. total (children b n) 0 z ≡ k + beyond b s n k) (sym e) (children-upto b s n k g), path-length b s k k (omega arith), siblings-are b s n k k (omega arith),
-      ancestors-up b s k h);
+      omega (
+        arith,
+        spines-length b s n m,
+        lefts-total b s n m (omega arith),
+        subst (λ z. lefts b n z + ancestors b s z ≡ 1 + ancestors b s m) e (lefts-step b s n m (omega arith)),
+        first-child b s n m,
+        subst (λ z. total (children b n) 0 z ≡ k + beyond b s n k) (sym e) (children-upto b s n k g),
+        path-length b s k k (omega arith),
+        siblings-are b s n k k (omega arith),
+        ancestors-up b s k h,
+      );
   of-sheet = λ h.
       let (t, x, f) = has-a-tree b s 0 n in
       let short = codes-are-short t (trees-are-wellformed b 0 t f) (omega (arith, x)) in

@@ -90,11 +90,13 @@ same-best b c p q n a i j x y z = best-one c q i j (best b i j) (best c i j) (a 
 
 agree-leaders : (b c : ℕ → ℕ → Bool) → Strict b → Strict c → (n : ℕ) → Agree b c n → SameLeaders b c n
 agree-leaders b c p q n a i j x y z =
-    let e = same-best b c p q n a i j x y z in
-    (e, elim (cases-eq i j) [
-      | inl g ↦ second-none b p i j g ∙ sym (second-none c q i j g)
-      | inr g ↦ pick (second b i j) refl (second-is b p i j y)
-    ])
+    let e = same-best b c p q n a i j x y z in (
+      e,
+      elim (cases-eq i j) [
+        | inl g ↦ second-none b p i j g ∙ sym (second-none c q i j g)
+        | inr g ↦ pick (second b i j) refl (second-is b p i j y)
+      ],
+    )
   where
     pick : (o : Option ℕ) → second b i j ≡ o → IsSecond b i j (best b i j) o → second b i j ≡ second c i j
     pick None g h = second-none b p i j h ∙ sym (second-none c q i j h)
@@ -127,11 +129,16 @@ pub accepted-exactly-when-cast : Accepted-exactly-when-cast
 accepted-exactly-when-cast s n = (
   λ e.
       let (b, p, few, f) = accepts-sheets s n .0 e in
-      let h = rebuilt-prices-cast-the-sheet b p n in
-      (few, (rebuilt b n, record {
-        many = h .many;
-        fit = λ k. let m = h .most k in let big : 4000 < 2 ^ 32 = lit< tt in omega arith;
-        cast = h .cast ∙ f;
-      })),
+      let h = rebuilt-prices-cast-the-sheet b p n in (
+        few,
+        (
+          rebuilt b n,
+          record {
+            many = h .many;
+            fit = λ k. let m = h .most k in let big : 4000 < 2 ^ 32 = lit< tt in omega arith;
+            cast = h .cast ∙ f;
+          },
+        ),
+      ),
   λ (few, (prices, c)). accepts-sheets s n .1 (beats dearer prices, prices-strict prices, few, c .cast),
 )

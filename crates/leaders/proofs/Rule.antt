@@ -312,7 +312,10 @@ module _ (b : ℕ → ℕ → Bool) (s : Strict b) (n i j : ℕ) (one : 1 ≤ i)
 
     both-left : b a r ≡ true → Second b i j k a
     both-left e = let g = a-best in let h = r-best in record {
-      best = top; from = g .from; upto = omega (arith, g .upto); other = omega (arith, g .upto);
+      best = top;
+      from = g .from;
+      upto = omega (arith, g .upto);
+      other = omega (arith, g .upto);
       over = λ m u v d c. elim (cases-lt m k) [
         | inl f ↦ g .over m u (omega arith) c
         | inr f ↦ elim (cases-eq m r) [ inl q ↦ rw q e | inr q ↦ s .transitive a r m e (h .over m (omega arith) v q) ]
@@ -321,7 +324,10 @@ module _ (b : ℕ → ℕ → Bool) (s : Strict b) (n i j : ℕ) (one : 1 ≤ i)
 
     both-right : b r a ≡ true → Second b i j k r
     both-right e = let g = a-best in let h = r-best in record {
-      best = top; from = omega (arith, h .from); upto = h .upto; other = omega (arith, h .from);
+      best = top;
+      from = omega (arith, h .from);
+      upto = h .upto;
+      other = omega (arith, h .from);
       over = λ m u v d c. elim (cases-lt m k) [
         | inl f ↦ elim (cases-eq m a) [ inl q ↦ rw q e | inr q ↦ s .transitive r a m e (g .over m u (omega arith) q) ]
         | inr f ↦ h .over m (omega arith) v c

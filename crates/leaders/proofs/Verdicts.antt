@@ -262,7 +262,7 @@ walk-tree all (node l w r) c st lot at bad rest h =
     ∙ walk-lot all (ls r) (rs l) d st (lot + size l) (at + ws l) bad₁ (counts r ++ rest)
     ∙ walk-tree all r (ls r) (d ∷ st) (lot + size l + 1) (at + ws l + size₁) bad₂ rest (omega arith)
     ∙ walk-same all (zeros (rs r) ((ls r - ls r) ∷ (d ∷ st))) (0 ∷ zeros (rs r) (d ∷ st)) (lot + size l + 1 + size r) (lot + suc (size l + size r)) (at + ws l + size₁ + ws r) (at + (ws l + size₁ + ws r)) (badOf all r (lot + size l + 1) (at + ws l + size₁) bad₂) rest
-      (ap (λ n. zeros (rs r) (n ∷ (d ∷ st))) (let y : ls r - ls r ≡ 0 = omega arith in y) ∙ zeros-more (rs r) (d ∷ st)) (omega arith) (omega arith)
+    (ap (λ n. zeros (rs r) (n ∷ (d ∷ st))) (let y : ls r - ls r ≡ 0 = omega arith in y) ∙ zeros-more (rs r) (d ∷ st)) (omega arith) (omega arith)
 
 walk-code : (all : List Bool) (t : Tree) (m : ℕ) → walk all 0 [] 0 m 0 (unary (ls t) ++ counts t) ≡ walked (m + ws t) (badOf all t 0 m 0)
 unfolding walk
@@ -278,9 +278,10 @@ head-length t = omega (arith, length-append (unary (ls t)) (counts t), unary-len
 -- the brackets of the bits
 heads : (t : Tree) (x s : List Bool) → s ≡ true ∷ (unary (ls t) ++ (counts t ++ x)) → (drop 1 (take (2 * size t + 2) s) ≡ unary (ls t) ++ counts t) × (drop (2 * size t + 2) s ≡ x)
 heads t x s e =
-    let f : s ≡ (true ∷ (unary (ls t) ++ counts t)) ++ x = e ∙ ap (_∷_ true) (sym (append-assoc (unary (ls t)) (counts t) x)) in
-    (ap (λ z. drop 1 (take (2 * size t + 2) z)) f ∙ ap (drop 1) (take-at (true ∷ (unary (ls t) ++ counts t)) x (2 * size t + 2) (head-length t)),
-    ap (drop (2 * size t + 2)) f ∙ drop-at (true ∷ (unary (ls t) ++ counts t)) x (2 * size t + 2) (head-length t))
+    let f : s ≡ (true ∷ (unary (ls t) ++ counts t)) ++ x = e ∙ ap (_∷_ true) (sym (append-assoc (unary (ls t)) (counts t) x)) in (
+      ap (λ z. drop 1 (take (2 * size t + 2) z)) f ∙ ap (drop 1) (take-at (true ∷ (unary (ls t) ++ counts t)) x (2 * size t + 2) (head-length t)),
+      ap (drop (2 * size t + 2)) f ∙ drop-at (true ∷ (unary (ls t) ++ counts t)) x (2 * size t + 2) (head-length t),
+    )
 
 -- the symbols of a word
 
@@ -361,13 +362,19 @@ fill all (node l w r) lot at bad e h =
     let (f, (ur, ar, vr, wr)) = fill all r (lot + size l + 1) (at + ws l + k) (lowest (lot + size l + 1) (badOf all l lot at bad) (tooMany (rs l) (ls r) x)) e (omega arith) in
     let (g, few) = lowest-zero (lot + size l + 1) (badOf all l lot at bad) (tooMany (rs l) (ls r) x) (omega arith) f in
     let (z, (ul, al, vl, wl)) = fill all l lot at bad g (omega arith) in
-    let (v, p, q, d) = word-fill (rs l) (ls r) x (omega (arith, length-take k (drop (at + ws l) all), length-drop (at + ws l) all)) few in
-    (z, (node ul v ur, (al, ar), (p ∙ alike-rs l ul al, q ∙ alike-ls r ur ar, vl, vr),
-    rw (wl, d, wr) (sym (take-add (ws l + k) (ws r) (drop at all)
-      ∙ ap (λ y. y ++ take (ws r) (drop (ws l + k) (drop at all))) (take-add (ws l) k (drop at all))
-      ∙ append-assoc (take (ws l) (drop at all)) (take k (drop (ws l) (drop at all))) (take (ws r) (drop (ws l + k) (drop at all)))
-      ∙ ap (λ y. take (ws l) (drop at all) ++ (take k y ++ take (ws r) (drop (ws l + k) (drop at all)))) (drop-drop (ws l) at all)
-      ∙ ap (λ y. take (ws l) (drop at all) ++ (x ++ take (ws r) y)) (drop-drop (ws l + k) at all ∙ ap (λ n. drop n all) (let y : at + (ws l + k) ≡ at + ws l + k = omega arith in y))))))
+    let (v, p, q, d) = word-fill (rs l) (ls r) x (omega (arith, length-take k (drop (at + ws l) all), length-drop (at + ws l) all)) few in (
+      z,
+      (
+        node ul v ur,
+        (al, ar),
+        (p ∙ alike-rs l ul al, q ∙ alike-ls r ur ar, vl, vr),
+        rw (wl, d, wr) (sym (take-add (ws l + k) (ws r) (drop at all)
+            ∙ ap (λ y. y ++ take (ws r) (drop (ws l + k) (drop at all))) (take-add (ws l) k (drop at all))
+            ∙ append-assoc (take (ws l) (drop at all)) (take k (drop (ws l) (drop at all))) (take (ws r) (drop (ws l + k) (drop at all)))
+            ∙ ap (λ y. take (ws l) (drop at all) ++ (take k y ++ take (ws r) (drop (ws l + k) (drop at all)))) (drop-drop (ws l) at all)
+            ∙ ap (λ y. take (ws l) (drop at all) ++ (x ++ take (ws r) y)) (drop-drop (ws l + k) at all ∙ ap (λ n. drop n all) (let y : at + (ws l + k) ≡ at + ws l + k = omega arith in y)))),
+      ),
+    )
 
 less-last : (w : List Bool) → (falses (dropLast w) ≤ falses w) × (trues (dropLast w) ≤ trues w) × (length (dropLast w) ≡ falses w + trues w - 1)
 unfolding falses trues dropLast
@@ -414,7 +421,7 @@ verdict-code t v h =
     let m = 2 * size t + 2 in
     let (a, b) = heads t (words t) s refl in
     let w : walk s 0 [] 0 m 0 (drop 1 (take m s)) ≡ walked (m + ws t) 0 =
-        ap (walk s 0 [] 0 m 0) a ∙ walk-code s t m ∙ ap (walked (m + ws t)) (good s t 0 m [] v (b ∙ sym (append-nil (words t)))) in
+    ap (walk s 0 [] 0 m 0) a ∙ walk-code s t m ∙ ap (walked (m + ws t)) (good s t 0 m [] v (b ∙ sym (append-nil (words t)))) in
     let long : m + ws t ≡ length s = omega (arith, words-ws t v, head-length t, length-append (unary (ls t)) (counts t), length-append (unary (ls t)) (counts t ++ words t), length-append (counts t) (words t)) in
     verdict-some s m (closes-code t (words t)) (omega arith)
     ∙ ap (finish s m) w
@@ -435,9 +442,13 @@ decoded s n m e h w f g b o =
     let (z, (u, al, v, wu)) = fill s t 0 m 0 (sym r ∙ b) (omega (arith, q, g)) in
     let y : drop m s ≡ x = ap (λ n. drop n s) j ∙ c in
     let k : words u ≡ x = wu ∙ ap (take (ws t)) y ∙ take-all (ws t) x (omega (arith, ap length y, length-drop m s, q, g)) in
-    let num : m / 2 - 1 ≡ n = cc in
-    (u, v, omega (arith, j, num, alike-size t u al), omega (arith, j, num),
-    rw (k, ← (alike-counts t u al), ← (alike-ls t u al)) (sym i))
+    let num : m / 2 - 1 ≡ n = cc in (
+      u,
+      v,
+      omega (arith, j, num, alike-size t u al),
+      omega (arith, j, num),
+      rw (k, ← (alike-counts t u al), ← (alike-ls t u al)) (sym i),
+    )
 
 accepted : (s : List Bool) (n : ℕ) (o : Option ℕ) → closes s ≡ o → verdict s ≡ Ok n → Code s n
 accepted s n None e h = absurd-path (cc (verdict-none s e))

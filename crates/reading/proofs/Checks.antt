@@ -190,7 +190,7 @@ module _ (all : List Bool) (p m : ℕ) (b : Bool) (less : p < m) (short : m ≤ 
       walk all d′ st′ lot′ at′ bad′ (drop (p + 1) (take m all)) ≡ walk all d st lot at bad (drop p (take m all))
   step-zero before size wrong t z e f g h k l n o =
       let x : walk all d′ st′ lot′ at′ bad′ (drop (p + 1) (take m all)) ≡
-          walk all 0 (d ∷ taken st) (lot + 1) (at + (spent st + d - 1)) (lowest (lot + 1) bad (tooMany (spent st) d (take (spent st + d - 1) (drop at all)))) (drop (p + 1) (take m all)) = cc in
+      walk all 0 (d ∷ taken st) (lot + 1) (at + (spent st + d - 1)) (lowest (lot + 1) bad (tooMany (spent st) d (take (spent st + d - 1) (drop at all)))) (drop (p + 1) (take m all)) = cc in
       x ∙ sym (ap (walk all d st lot at bad) (bit-next all p m b false less short i t) ∙ walk-zero all d st lot at bad (drop (p + 1) (take m all)) z)
 
 pub taken-none : (st : List ℕ) → st ≡ [] → taken st ≡ []

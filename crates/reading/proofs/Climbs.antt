@@ -78,8 +78,8 @@ climb-all (node l w r) lot best above steps =
     ap (λ z. climb z (at lot best above steps)) (flat-append (degrees l) (ls r ∷ degrees r))
     ∙ climb-append (flat (degrees l)) (unary (ls r) ++ flat (degrees r)) (at lot best above steps)
     ∙ ap (climb (flat (degrees l))) (climb-append (unary (ls r)) (flat (degrees r)) (at lot best above steps)
-      ∙ ap (climb (unary (ls r))) (climb-all r lot best above steps)
-      ∙ unary-few (ls r) (lot - size r) best (above + ls r) steps (omega arith))
+    ∙ ap (climb (unary (ls r))) (climb-all r lot best above steps)
+    ∙ unary-few (ls r) (lot - size r) best (above + ls r) steps (omega arith))
     ∙ climb-all l (lot - size r - 1) best (above + ls r + 1 - ls r) steps
     ∙ same (lot - size r - 1 - size l) (lot - suc (size l + size r)) best best (above + ls r + 1 - ls r + ls l) (above + suc (ls l)) steps steps (omega arith) refl (omega arith) refl
 
@@ -106,11 +106,14 @@ climb-end c (node l w r) lot best above steps = elim (cases-lt (size l) c) [
       let (x, y, e) = climb-end (c - length (degrees l) - 1) r lot best above steps in
       (x, y, ap (λ z. climb (flat z) (at lot best above steps)) (drop-past (degrees l) (degrees r) (ls r) c (omega (arith, degrees-length l))) ∙ e)
   | inr h ↦
-      let (x, y, e) = climb-end c l (lot - size r - 1) best (above + ls r + 1 - ls r) steps in
-      (x, y, ap (λ z. climb (flat z) (at lot best above steps)) (drop-append-le c (degrees l) (ls r ∷ degrees r) (omega (arith, degrees-length l)))
-        ∙ climb-node (drop c (degrees l)) (degrees r) (ls r) (at lot best above steps)
-        ∙ ap (climb (flat (drop c (degrees l)))) (ap (climb (unary (ls r))) (climb-all r lot best above steps) ∙ unary-few (ls r) (lot - size r) best (above + ls r) steps (omega arith))
-        ∙ e)
+      let (x, y, e) = climb-end c l (lot - size r - 1) best (above + ls r + 1 - ls r) steps in (
+        x,
+        y,
+        ap (λ z. climb (flat z) (at lot best above steps)) (drop-append-le c (degrees l) (ls r ∷ degrees r) (omega (arith, degrees-length l)))
+            ∙ climb-node (drop c (degrees l)) (degrees r) (ls r) (at lot best above steps)
+            ∙ ap (climb (flat (drop c (degrees l)))) (ap (climb (unary (ls r))) (climb-all r lot best above steps) ∙ unary-few (ls r) (lot - size r) best (above + ls r) steps (omega arith))
+            ∙ e,
+      )
 ]
 
 -- how many at the front are too high, and how many at the front are too low

@@ -1,5 +1,6 @@
 pub mod Climbs
 pub mod Readers
+pub mod Marks
 pub mod Places
 pub mod Zooms
 pub mod Pages

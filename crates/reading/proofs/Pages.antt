@@ -87,7 +87,7 @@ zoom-slice b t i j z =
     ap (λ y. drop (i - 1) (take (j - 1) y)) (z .parts)
     ∙ ap (λ m. drop m (take (j - 1) (z .pre ++ (degrees (z .l) ++ (ls (z .r) ∷ (degrees (z .r) ++ z .post)))))) (let k : i - 1 ≡ length (z .pre) + (i - 1 - z .q) = omega (arith, z .after, z .place) in k)
     ∙ ap (λ m. drop (length (z .pre) + (i - 1 - z .q)) (take m (z .pre ++ (degrees (z .l) ++ (ls (z .r) ∷ (degrees (z .r) ++ z .post))))))
-      (let k : j - 1 ≡ length (z .pre) + (size (z .l) + (j - root (z .q) (z .l))) = omega (arith, z .high, z .place) in k)
+    (let k : j - 1 ≡ length (z .pre) + (size (z .l) + (j - root (z .q) (z .l))) = omega (arith, z .high, z .place) in k)
     ∙ node-slice (z .pre) (z .post) (z .l) (z .r) (i - 1 - z .q) (j - root (z .q) (z .l)) (omega (arith, z .low, z .after))
 
 pub zoom-best : (b : ℕ → ℕ → Bool) (t : Tree) (bs : List Bool) → bs ≡ encode t → (i j : ℕ) → i ≤ j → j ≤ size t → (z : Zoom b 0 t i j) → reach bs i j .best ≡ root (z .q) (z .l)

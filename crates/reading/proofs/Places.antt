@@ -14,26 +14,6 @@ use Rattle.leaders.specs.Sheet.{unary}
 use Rattle.reading.specs.Place.{after}
 use Rattle.reading.proofs.Climbs.{flat, degrees, flat-append, counts-flat, degrees-length}
 
-absurd-path : {A : Type 0} → _≡_ {A = ℕ} 0 1 → A
-absurd-path e = absurd (omega arith)
-
-pub select-after : (bs : List Bool) (m q : ℕ) → Select (map not bs) (suc m) (Some q) → q + 1 ≡ after (suc m) bs
-unfolding after
-select-after [] m q (e, f) = absurd-path (cc)
-select-after (true ∷ bs) m zero (e, f) = absurd-path (cc)
-select-after (true ∷ bs) m (suc q) (e, f) = omega (arith, select-after bs m q (e, f))
-select-after (false ∷ bs) zero zero (e, f) = refl
-select-after (false ∷ bs) (suc m) zero (e, f) = absurd (omega arith)
-select-after (false ∷ bs) zero (suc q) (e, f) = absurd (omega arith)
-select-after (false ∷ bs) (suc m) (suc q) (e, f) = omega (arith, select-after bs m q (e, omega arith))
-
-pub none-after : (bs : List Bool) (m : ℕ) → ones (map not bs) < suc m → length bs ≡ after (suc m) bs
-unfolding after
-none-after [] m h = refl
-none-after (true ∷ bs) m h = ap suc (none-after bs m h)
-none-after (false ∷ bs) zero h = absurd (omega arith)
-none-after (false ∷ bs) (suc m) h = ap suc (none-after bs m (omega arith))
-
 pub unary-length : (n : ℕ) → length (unary n) ≡ suc n
 unfolding unary
 unary-length zero = refl

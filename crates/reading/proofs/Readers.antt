@@ -15,7 +15,6 @@ use Rattle.reading.specs.declared.climb.Climb.{Climb}
 use Rattle.reading.specs.Climbing.{at, back, climb}
 use Rattle.reading.specs.Place.{after, lones}
 use Rattle.leaders.specs.Tree.{sooner}
-use Rattle.reading.proofs.Places.{select-after, none-after}
 use Rattle.std.specs.Finite.{nth}
 use Rattle.std.specs.declared.option.Option.the-variants.{Some, None}
 use Rattle.bits.specs.Bits.{ones, rankOf, bitAt, Select}
@@ -62,23 +61,6 @@ pub drop-here : (bs : List Bool) (p : ℕ) (b : Bool) → p < length bs → b �
 drop-here [] p b h i = absurd (omega arith)
 drop-here (x ∷ bs) zero b h i = ap (λ z. z ∷ bs) (sym i)
 drop-here (x ∷ bs) (suc p) b h i = drop-here bs p b (omega arith) i
-
-pub start-some : (bs : List Bool) (m q : ℕ) → 1 ≤ m → Select (map not bs) m (Some q) → q + 1 ≡ after m bs
-start-some bs zero q h s = absurd (omega arith)
-start-some bs (suc m) q h s = select-after bs m q s
-
-pub start-none : (bs : List Bool) (m : ℕ) → 1 ≤ m → Select (map not bs) m None → length bs ≡ after m bs
-start-none bs zero h s = absurd (omega arith)
-start-none bs (suc m) h (inl e) = absurd (omega arith)
-start-none bs (suc m) h (inr k) = none-after bs m k
-
-nth-bound : (bs : List Bool) (q : ℕ) (b : Bool) → nth bs q ≡ Some b → q < length bs
-nth-bound [] q b e = absurd (let z : _≡_ {A = ℕ} 0 1 = cc in omega arith)
-nth-bound (x ∷ bs) zero b e = omega arith
-nth-bound (x ∷ bs) (suc q) b e = omega (arith, nth-bound bs q b e)
-
-pub select-bound : (bs : List Bool) (m q : ℕ) → Select (map not bs) m (Some q) → q < length bs
-select-bound bs m q (e, f) = omega (arith, nth-bound (map not bs) q true e, length-map bs not)
 
 -- the loop of `lone_lots`
 pub lones-one : (bs : List Bool) (p e : ℕ) (b a c : Bool) → p < e → e ≤ length bs → b ≡ set-at bs p → b ≡ true → lones a c (drop p (take e bs)) ≡ lones a true (drop (p + 1) (take e bs))

@@ -199,11 +199,11 @@ module _ (b : ℕ → ℕ → Bool) (s : Strict b) (t : Tree) (bs : List Bool) (
       let found : over j (spineL k (z .r)) < ls (z .r) = subst (λ n. over n (spineL k (z .r)) < ls (z .r)) y (f .found) in
       let is = subst (λ n. climb (flat (take c (degrees (z .r)))) (at n n 0 0) ≡ at (suc k) (getD (spineL k (z .r)) (over n (spineL k (z .r))) 0) (ls (z .r) - 1 - over n (spineL k (z .r))) (turns (z .r) c)) y (f .is) in
       let part : drop (k + 1 - 1) (take (j - 1) (degrees t)) ≡ take c (degrees (z .r)) =
-          ap (λ m. drop m (take (j - 1) (degrees t))) (let x : k + 1 - 1 ≡ length (lower ++ (ls (z .r) ∷ [])) + 0 = omega (arith, own-length) in x)
-          ∙ ap (λ m. drop (length (lower ++ (ls (z .r) ∷ [])) + 0) (take m (degrees t))) (let x : j - 1 ≡ length (lower ++ (ls (z .r) ∷ [])) + c = omega (arith, own-length) in x)
-          ∙ ap (λ y. drop (length (lower ++ (ls (z .r) ∷ [])) + 0) (take (length (lower ++ (ls (z .r) ∷ [])) + c) y)) split-after
-          ∙ slice-append (lower ++ (ls (z .r) ∷ [])) (degrees (z .r) ++ z .post) 0 c
-          ∙ take-append-le c (degrees (z .r)) (z .post) (omega (arith, z .upto, degrees-length (z .r))) in
+      ap (λ m. drop m (take (j - 1) (degrees t))) (let x : k + 1 - 1 ≡ length (lower ++ (ls (z .r) ∷ [])) + 0 = omega (arith, own-length) in x)
+      ∙ ap (λ m. drop (length (lower ++ (ls (z .r) ∷ [])) + 0) (take m (degrees t))) (let x : j - 1 ≡ length (lower ++ (ls (z .r) ∷ [])) + c = omega (arith, own-length) in x)
+      ∙ ap (λ y. drop (length (lower ++ (ls (z .r) ∷ [])) + 0) (take (length (lower ++ (ls (z .r) ∷ [])) + c) y)) split-after
+      ∙ slice-append (lower ++ (ls (z .r) ∷ [])) (degrees (z .r) ++ z .post) 0 c
+      ∙ take-append-le c (degrees (z .r)) (z .post) (omega (arith, z .upto, degrees-length (z .r))) in
       (found, reach-flat t bs e (k + 1) j (omega arith) (omega arith) (omega arith) (at j j 0 0) ∙ ap (λ y. climb (flat y) (at j j 0 0)) part ∙ is)
 
   abbrev aside : ℕ
@@ -235,11 +235,11 @@ module _ (b : ℕ → ℕ → Bool) (s : Strict b) (t : Tree) (bs : List Bool) (
   unfolding wordAt some
   word-is h =
       let lone-is : lones true false (drop (after 1 bs) (take (after k bs) bs)) ≡ lone 1 lower =
-          ap (λ y. lones true false (drop (after 1 y) (take (after k y) y))) e
-          ∙ ap (lones true false) (slice-encode t 0 (z .q + size (z .l)) (omega arith) (omega (arith, below-size)) ∙ ap flat take-lower)
-          ∙ lones-flat 1 lower in
+      ap (λ y. lones true false (drop (after 1 y) (take (after k y) y))) e
+      ∙ ap (lones true false) (slice-encode t 0 (z .q + size (z .l)) (omega arith) (omega (arith, below-size)) ∙ ap flat take-lower)
+      ∙ lones-flat 1 lower in
       let depth : reach bs 1 (k - 1) .steps + 1 ≡ z .depth + rs (z .l) =
-          omega (arith, steps-in (k - 1) (omega (arith, z .after)) (omega arith), ap (turns (z .l)) (let y : k - 1 - z .q - 1 ≡ size (z .l) - 1 = omega arith in y), turns-last (z .l) (omega (arith, z .after))) in
+      omega (arith, steps-in (k - 1) (omega (arith, z .after)) (omega arith), ap (turns (z .l)) (let y : k - 1 - z .q - 1 ≡ size (z .l) - 1 = omega arith in y), turns-last (z .l) (omega (arith, z .after))) in
       omega (arith, lone-is, depth, after-first, after-here, z .symbols 1 (omega arith))
 
   drop-word : drop (2 * size t + 2 + length (z .front)) bs ≡ dropLast (z .w) ++ z .rest
@@ -294,23 +294,29 @@ module _ (b : ℕ → ℕ → Bool) (s : Strict b) (t : Tree) (bs : List Bool) (
       let best = ap (λ s. s .best) r in
       let A = reach bs i (k - 1) .best in
       let chosen : cond (leftFirst bs (size t) k A (reach bs (k + 1) j .above)) A (reach bs (k + 1) j .best) ≡ scan i j (z .w) (spineR (z .q) (z .l)) (spineL k (z .r)) =
-          ap (λ x. cond (leftFirst bs (size t) k x (reach bs (k + 1) j .above)) x (reach bs (k + 1) j .best)) (left-reach f g)
-          ∙ ap (λ x. cond (leftFirst bs (size t) k a x) a (reach bs (k + 1) j .best)) above
-          ∙ ap (λ x. cond (leftFirst bs (size t) k a (ls (z .r) - 1 - ahead)) a x) best
-          ∙ ap (λ x. cond x a (getD (spineL k (z .r)) ahead 0)) (first-is g h)
-          ∙ sym (scan-is g h) in
+      ap (λ x. cond (leftFirst bs (size t) k x (reach bs (k + 1) j .above)) x (reach bs (k + 1) j .best)) (left-reach f g)
+      ∙ ap (λ x. cond (leftFirst bs (size t) k a x) a (reach bs (k + 1) j .best)) above
+      ∙ ap (λ x. cond (leftFirst bs (size t) k a (ls (z .r) - 1 - ahead)) a x) best
+      ∙ ap (λ x. cond x a (getD (spineL k (z .r)) ahead 0)) (first-is g h)
+      ∙ sym (scan-is g h) in
       rw (ne-eqb i k (omega arith), ne-eqb k j (omega arith)) (subst (Second b i j k) (sym chosen) (node-second g h))
 
 -- lots on one side only
 right-only : (b : ℕ → ℕ → Bool) (i j k s : ℕ) → Best b i j k → i ≡ k → Best b (k + 1) j s → Second b i j k s
 right-only b i j k s h e g = record {
-  best = h; from = omega (arith, g .from); upto = g .upto; other = omega (arith, g .from);
+  best = h;
+  from = omega (arith, g .from);
+  upto = g .upto;
+  other = omega (arith, g .from);
   over = λ m u v d c. g .over m (omega arith) v c;
 }
 
 left-only : (b : ℕ → ℕ → Bool) (i j k s : ℕ) → Best b i j k → k ≡ j → i < k → Best b i (k - 1) s → Second b i j k s
 left-only b i j k s h e p g = record {
-  best = h; from = g .from; upto = omega (arith, g .upto); other = omega (arith, g .upto);
+  best = h;
+  from = g .from;
+  upto = omega (arith, g .upto);
+  other = omega (arith, g .upto);
   over = λ m u v d c. g .over m u (omega arith) c;
 }
 
@@ -333,11 +339,11 @@ second-read b s bs n e i j g h m =
     let k = root (z .q) (z .l) in
     let best = root-best b (c .t) i j z in
     let at-k : Second b i j k (runnerUp bs n i j k) =
-        elim (cases-lt i k) [
-          | inl p ↦ elim (cases-lt k j) [
-            | inl q ↦ subst (λ x. Second b i j k (runnerUp bs x i j k)) (c .sized) (both-sides b s (c .t) bs (c .is) i j (omega (arith, c .sized)) z (c .follows) p q)
-            | inr q ↦ let y : k ≡ j = omega (arith, z .high) in subst (Second b i j k) (sym (runner-left bs n i j k p y)) (left-only b i j k _ best y p (best-read b s bs n e i (k - 1) g (omega arith) (omega arith)))
-          ]
-          | inr p ↦ let y : i ≡ k = omega (arith, z .low) in subst (Second b i j k) (sym (runner-right bs n i j k y (omega arith))) (right-only b i j k _ best y (best-read b s bs n e (k + 1) j (omega arith) (omega arith) m))
-        ] in
+    elim (cases-lt i k) [
+      | inl p ↦ elim (cases-lt k j) [
+        | inl q ↦ subst (λ x. Second b i j k (runnerUp bs x i j k)) (c .sized) (both-sides b s (c .t) bs (c .is) i j (omega (arith, c .sized)) z (c .follows) p q)
+        | inr q ↦ let y : k ≡ j = omega (arith, z .high) in subst (Second b i j k) (sym (runner-left bs n i j k p y)) (left-only b i j k _ best y p (best-read b s bs n e i (k - 1) g (omega arith) (omega arith)))
+      ]
+      | inr p ↦ let y : i ≡ k = omega (arith, z .low) in subst (Second b i j k) (sym (runner-right bs n i j k y (omega arith))) (right-only b i j k _ best y (best-read b s bs n e (k + 1) j (omega arith) (omega arith) m))
+    ] in
     subst (λ x. Second b i j x (runnerUp bs n i j x)) (sym (zoom-best b (c .t) bs (c .is) i j (omega arith) (omega (arith, c .sized)) z)) at-k

@@ -163,20 +163,47 @@ zoom b o (node l w r) f i j g h k = elim (cases-lt j (root o l)) [
   | inr e ↦ elim (cases-lt (root o l) i) [
     | inl d ↦ right (omega arith) (zoom b (root o l) r (f .2) i j d h (omega arith))
     | inr d ↦ record {
-        l = l; w = w; r = r; q = o; follows = f; after = g; low = d; high = e; upto = omega arith;
-        pre = []; post = []; parts = simp append-nil; place = omega arith;
-        front = words l; rest = words r; word = refl;
-        depth = 0; turned = λ c m. ap (turns (node l w r)) (let e : 0 + c ≡ c = omega arith in e) ∙ (let e : turns (node l w r) c ≡ 0 + turns (node l w r) c = omega arith in e);
-        symbols = λ p m. omega (arith, words-all l p (trees-are-wellformed b o l (f .1)) m);
-      }
+      l = l;
+      w = w;
+      r = r;
+      q = o;
+      follows = f;
+      after = g;
+      low = d;
+      high = e;
+      upto = omega arith;
+      pre = [];
+      post = [];
+      parts = simp append-nil;
+      place = omega arith;
+      front = words l;
+      rest = words r;
+      word = refl;
+      depth = 0;
+      turned = λ c m. ap (turns (node l w r)) (let e : 0 + c ≡ c = omega arith in e) ∙ (let e : turns (node l w r) c ≡ 0 + turns (node l w r) c = omega arith in e);
+      symbols = λ p m. omega (arith, words-all l p (trees-are-wellformed b o l (f .1)) m);
+    }
   ]
 ]
   where
     left : Zoom b o l i j → Zoom b o (node l w r) i j
     left z = record {
-      l = z .l; w = z .w; r = z .r; q = z .q; follows = z .follows; after = z .after; low = z .low; high = z .high; upto = z .upto;
-      pre = z .pre; post = z .post ++ (ls r ∷ degrees r); parts = rw (z .parts) (simp append-assoc); place = z .place;
-      front = z .front; rest = z .rest ++ (dropLast w ++ words r); word = rw (z .word) (simp append-assoc);
+      l = z .l;
+      w = z .w;
+      r = z .r;
+      q = z .q;
+      follows = z .follows;
+      after = z .after;
+      low = z .low;
+      high = z .high;
+      upto = z .upto;
+      pre = z .pre;
+      post = z .post ++ (ls r ∷ degrees r);
+      parts = rw (z .parts) (simp append-assoc);
+      place = z .place;
+      front = z .front;
+      rest = z .rest ++ (dropLast w ++ words r);
+      word = rw (z .word) (simp append-assoc);
       depth = z .depth;
       turned = λ c m. turns-left l w r (length (z .pre) + c) (omega (arith, degrees-length l, degrees-length (z .l), simp length-append at (ap length (z .parts)))) ∙ z .turned c m;
       symbols = z .symbols;
@@ -184,9 +211,22 @@ zoom b o (node l w r) f i j g h k = elim (cases-lt j (root o l)) [
 
     right : 0 < size r → Zoom b (root o l) r i j → Zoom b o (node l w r) i j
     right n z = record {
-      l = z .l; w = z .w; r = z .r; q = z .q; follows = z .follows; after = z .after; low = z .low; high = z .high; upto = z .upto;
-      pre = degrees l ++ (ls r ∷ z .pre); post = z .post; parts = rw (z .parts) (simp append-assoc); place = simp length-append (omega (arith, z .place, degrees-length l));
-      front = words l ++ (dropLast w ++ z .front); rest = z .rest; word = rw (z .word) (simp append-assoc);
+      l = z .l;
+      w = z .w;
+      r = z .r;
+      q = z .q;
+      follows = z .follows;
+      after = z .after;
+      low = z .low;
+      high = z .high;
+      upto = z .upto;
+      pre = degrees l ++ (ls r ∷ z .pre);
+      post = z .post;
+      parts = rw (z .parts) (simp append-assoc);
+      place = simp length-append (omega (arith, z .place, degrees-length l));
+      front = words l ++ (dropLast w ++ z .front);
+      rest = z .rest;
+      word = rw (z .word) (simp append-assoc);
       depth = suc (z .depth);
       turned = λ c m.
           let e : length (degrees l ++ (ls r ∷ z .pre)) ≡ size l + suc (length (z .pre)) = simp length-append (omega (arith, degrees-length l)) in

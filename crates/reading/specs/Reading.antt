@@ -1,13 +1,15 @@
 -- What the reader finds in the bits of a sheet.
-use Prim.Native.Nat.{ℕ, zero, suc, _+_, _-_, _*_}
+use Prim.Native.Nat.{ℕ, zero, suc, _+_, _-_, _*_, _≤_, _<_}
+use mathlib.Core.Path.{_≡_}
 use mathlib.Core.List.{List, [], _∷_}
 use mathlib.Core.Bool.{Bool, true, false, cond}
 use lib.Dec.{eqb}
 use lib.ListN.{take, drop}
 use Rattle.reading.specs.declared.climb.Climb.{Climb}
+use Rattle.reading.specs.declared.climb.Mark.{Mark}
 use Rattle.reading.specs.Climbing.{at, climb}
 use Rattle.leaders.specs.Tree.{sooner}
-use Rattle.reading.specs.Place.{after, lones}
+use Rattle.reading.specs.Place.{after, lones, Marked}
 
 -- from lot j back to lot i
 unfoldable pub reach : List Bool → ℕ → ℕ → Climb
@@ -28,3 +30,14 @@ runnerUp bs n i j k =
     (cond (eqb k j) 0 (reach bs (k + 1) j .best))
     (cond (eqb k j) (reach bs i (k - 1) .best)
     (cond (leftFirst bs n k (reach bs i (k - 1) .best) (reach bs (k + 1) j .above)) (reach bs i (k - 1) .best) (reach bs (k + 1) j .best)))
+
+-- lot 1 and the ends of a range are marked, k is one of the range, and the best in front of k, if there is one, is one too
+pub record Ends (bs : List Bool) (first low high : Mark) (k : ℕ) : Type 0 where
+  pub one : first .lot ≡ 1
+  pub first-is : Marked bs first
+  pub low-is : Marked bs low
+  pub high-is : Marked bs high
+  pub some : 1 ≤ low .lot
+  pub from : low .lot ≤ k
+  pub upto : k ≤ high .lot
+  pub left : low .lot < k → low .lot ≤ reach bs (low .lot) (k - 1) .best

@@ -100,14 +100,21 @@ fn settle(stack: &mut [u16], top: usize, d: u16) -> Settled
         stack[next] -= 1;
     }
     stack[next - 1] = d;
-    Settled { before: next - top, top: next - 1 }
+    Settled {
+        before: next - top,
+        top: next - 1,
+    }
 }
 
 /// Are there more than `p` zeros or more than `q` ones among the `size` bits from `from` on?
 fn too_many<T: Tape>(tape: &T, from: usize, size: usize, p: usize, q: usize) -> bool
     ensures { λ r. ⌜ r ≡ tooMany p q (take size (drop from (T·Tape .bits (now (tape .entry))))) ⌝ }
 {
-    let word = Window { below: tape, from, most: size };
+    let word = Window {
+        below: tape,
+        from,
+        most: size,
+    };
     let n = word.len();
     let ones = word.rank(n);
     n - ones > p || ones > q
@@ -140,7 +147,11 @@ fn walk_over<T: Tape>(tape: &T, m: usize) -> Walk
             if !whole {
                 let size = (settled.before + d as usize).saturating_sub(1);
                 lot += 1;
-                bad = first_bad(lot, bad, too_many(tape, at, size, settled.before, d as usize));
+                bad = first_bad(
+                    lot,
+                    bad,
+                    too_many(tape, at, size, settled.before, d as usize),
+                );
                 at += size;
             }
             top = settled.top;
@@ -169,4 +180,3 @@ pub fn check<T: Tape>(tape: &T) -> Result<u32, SheetFault>
     }
     Ok((m / 2).saturating_sub(1) as u32)
 }
-

@@ -1,15 +1,12 @@
 //! Back through the numbers of children, from lot to lot.
 
 ghost use mathlib.Core.Path.{_≡_};
-ghost use Prim.Native.Nat.{_<_, _≤_};
+ghost use Prim.Native.Nat.{_+_, _<_, _≤_};
 ghost use lib.ListN.{take, drop};
 ghost use Rattle.reading.specs.Climbing.{at, back, climb};
-ghost use Rattle.reading.specs.Place.{after};
+ghost use Rattle.reading.specs.Place.{after, Marked};
 ghost use Rattle.reading.specs.Reading.{reach};
 use bits::tape::Tape;
-use bits::views::Flipped;
-use bits::views::FlippedTape;
-use bits::views::RefTape;
 
 /// How far a reader has gone back.
 #[derive(Clone, Copy)]
@@ -26,12 +23,27 @@ pub fn step_back(bit: bool, s: Climb) -> Climb
     ensures { λ r. ⌜ r ≡ back bit s ⌝ }
 {
     if !bit {
-        return Climb { lot: s.lot.saturating_sub(1), best: s.best, above: s.above + 1, steps: s.steps };
+        return Climb {
+            lot: s.lot.saturating_sub(1),
+            best: s.best,
+            above: s.above + 1,
+            steps: s.steps,
+        };
     }
     if s.above == 1 {
-        Climb { lot: s.lot, best: s.lot, above: 0, steps: s.steps + 1 }
+        Climb {
+            lot: s.lot,
+            best: s.lot,
+            above: 0,
+            steps: s.steps + 1,
+        }
     } else {
-        Climb { lot: s.lot, best: s.best, above: s.above.saturating_sub(1), steps: s.steps }
+        Climb {
+            lot: s.lot,
+            best: s.best,
+            above: s.above.saturating_sub(1),
+            steps: s.steps,
+        }
     }
 }
 
@@ -41,32 +53,66 @@ pub fn climb_back<T: Tape>(tape: &T, from: usize, upto: usize, lot: u32) -> Clim
 {
     let n = tape.len();
     let end = if upto < n { upto } else { n };
-    let mut s = Climb { lot, best: lot, above: 0, steps: 0 };
+    let mut s = Climb {
+        lot,
+        best: lot,
+        above: 0,
+        steps: 0,
+    };
     for p in (from..end).rev() {
         s = step_back(tape.get(p).unwrap_or(false), s);
     }
     s
 }
 
-/// Where the number of children of a lot begins.
-pub fn start_of<T: Tape>(tape: &T, lot: u32) -> usize
-    ensures is { λ r. ⌜ (1 ≤ lot → r ≡ after lot (T·Tape .bits (now (tape .entry)))) ⌝ }
-    ensures short { λ r. ⌜ r ≤ 32768 ⌝ }
+/// A lot, and the bit where its number of children begins.
+#[derive(Clone, Copy)]
+pub struct Mark {
+    pub lot: u32,
+    pub at: usize,
+}
+
+/// The bit after the next `lots` zeros from `from` on, or the end where there are fewer.
+pub fn skip<T: Tape>(tape: &T, from: usize, lots: u32) -> usize
+    ensures is { λ r. ⌜ r ≡ from + after lots (drop from (T·Tape .bits (now (tape .entry)))) ⌝ }
+    ensures short { λ r. ⌜ (from ≤ 32768 → r ≤ 32768) ⌝ }
 {
     let n = tape.len();
-    let zeros = Flipped { below: tape };
-    match zeros.select(lot as usize) {
-        Some(p) => p + 1,
-        None => n,
+    let mut left = lots;
+    for p in from..n {
+        if left == 0 {
+            return p;
+        }
+        if !tape.get(p).unwrap_or(false) {
+            left -= 1;
+        }
     }
+    from.max(n)
 }
 
-/// From lot `j` back to lot `i`.
-pub fn range_back<T: Tape>(tape: &T, i: u32, j: u32) -> Climb
-    ensures { λ r. ⌜ (1 ≤ i → 1 ≤ j → r ≡ reach (T·Tape .bits (now (tape .entry))) i j) ⌝ }
+/// The mark of lot 1.
+pub fn first_mark<T: Tape>(tape: &T) -> Mark
+    ensures is { λ r. ⌜ Marked (T·Tape .bits (now (tape .entry))) r ⌝ }
+    ensures lot { λ r. ⌜ r .lot ≡ 1 ⌝ }
+    ensures short { λ r. ⌜ r .at ≤ 32768 ⌝ }
 {
-    let from = start_of(tape, i);
-    let upto = start_of(tape, j);
-    climb_back(tape, from, upto, j)
+    let at = skip(tape, 0, 1);
+    Mark { lot: 1, at }
 }
 
+/// The mark of a lot, from that of one that is no higher.
+pub fn mark_at<T: Tape>(tape: &T, from: Mark, lot: u32) -> Mark
+    ensures is { λ r. ⌜ (Marked (T·Tape .bits (now (tape .entry))) from → from .lot ≤ lot → Marked (T·Tape .bits (now (tape .entry))) r) ⌝ }
+    ensures lot { λ r. ⌜ r .lot ≡ lot ⌝ }
+    ensures short { λ r. ⌜ (from .at ≤ 32768 → r .at ≤ 32768) ⌝ }
+{
+    let at = skip(tape, from.at, lot.saturating_sub(from.lot));
+    Mark { lot, at }
+}
+
+/// From the lot at `high` back to the lot at `low`.
+pub fn range_back<T: Tape>(tape: &T, low: Mark, high: Mark) -> Climb
+    ensures { λ r. ⌜ (Marked (T·Tape .bits (now (tape .entry))) low → Marked (T·Tape .bits (now (tape .entry))) high → r ≡ reach (T·Tape .bits (now (tape .entry))) (low .lot) (high .lot)) ⌝ }
+{
+    climb_back(tape, low.at, high.at, high.lot)
+}

@@ -1,43 +1,91 @@
 //! The best and the second of a range, from the bits of a sheet.
 
 ghost use mathlib.Core.Path.{_≡_};
-ghost use Prim.Native.Nat.{_-_, _<_, _≤_};
-ghost use Rattle.reading.specs.Reading.{reach, leftFirst, runnerUp};
+ghost use Prim.Native.Nat.{_+_, _<_, _≤_};
+ghost use Rattle.reading.specs.Place.{Marked, MarksAll};
+ghost use Rattle.reading.specs.Reading.{reach, leftFirst, runnerUp, Ends};
 ghost use Rattle.reading.specs.Leads.{lotOf, Shows};
+use crate::climb::Climb;
+use crate::climb::Mark;
+use crate::climb::first_mark;
+use crate::climb::mark_at;
 use crate::climb::range_back;
-use crate::climb::start_of;
 use crate::place::word_at;
 use crate::place::zero_first;
 use bits::tape::Tape;
 
-/// Is `a`, the best in front of lot `k`, better than the best behind it, which has `above` lots of its kind in front?
-fn left_first<T: Tape>(tape: &T, lots: u32, k: u32, a: u32, above: u32) -> bool
-    requires { ⌜ 2 ≤ k ⌝ ∗ ⌜ k < 4294967295 ⌝ }
-    ensures { λ r. ⌜ (1 ≤ a → r ≡ leftFirst (T·Tape .bits (now (tape .entry))) lots k a above) ⌝ }
-{
-    let x = range_back(tape, 1, a).steps.saturating_sub(range_back(tape, 1, k).steps);
-    let here = start_of(tape, k);
-    let next = start_of(tape, k + 1);
-    let y = next.saturating_sub(here).saturating_sub(2 + above as usize);
-    zero_first(tape, word_at(tape, lots, k), x as usize, y)
+/// A lot, the lot before it and the lot after it.
+#[derive(Clone, Copy)]
+struct Around {
+    before: Mark,
+    here: Mark,
+    next: Mark,
 }
 
-/// The second best of the lots `i` to `j`, of which `k` is the best, or 0 where there is no other.
-fn runner_up<T: Tape>(tape: &T, lots: u32, i: u32, j: u32, k: u32) -> u32
-    ensures { λ r. ⌜ (1 ≤ i → i ≤ k → k ≤ j → (i < k → 1 ≤ reach (T·Tape .bits (now (tape .entry))) i (k - 1) .best) → r ≡ runnerUp (T·Tape .bits (now (tape .entry))) lots i j k) ⌝ }
+/// Whether the lot at `left`, the best in front of a lot, is better than the best behind it, which has `above` lots of its kind in front.
+fn left_first<T: Tape>(
+    tape: &T,
+    lots: u32,
+    first: Mark,
+    left: Mark,
+    around: Around,
+    above: u32,
+) -> bool
+    requires lot { ⌜ 2 ≤ around .here .lot ⌝ }
+    requires short { ⌜ around .here .at ≤ 32768 ⌝ }
+    ensures { λ r. ⌜ (MarksAll (T·Tape .bits (now (tape .entry))) first left (around .before) (around .here) (around .next) → r ≡ leftFirst (T·Tape .bits (now (tape .entry))) lots (around .here .lot) (left .lot) above) ⌝ }
 {
-    if i == 0 {
+    let x = range_back(tape, first, left)
+        .steps
+        .saturating_sub(range_back(tape, first, around.here).steps);
+    let y = around
+        .next
+        .at
+        .saturating_sub(around.here.at)
+        .saturating_sub(2 + above as usize);
+    let from = word_at(tape, lots, first, around.before, around.here);
+    zero_first(tape, from, x as usize, y)
+}
+
+/// The second of the lots from `low` to `high`, of which `k` is the best, or 0 where there is no other; `first` marks lot 1.
+fn runner_up<T: Tape>(tape: &T, lots: u32, first: Mark, low: Mark, high: Mark, k: u32) -> u32
+    requires short { ⌜ low .at ≤ 32768 ⌝ }
+    ensures { λ r. ⌜ (Ends (T·Tape .bits (now (tape .entry))) first low high k → r ≡ runnerUp (T·Tape .bits (now (tape .entry))) lots (low .lot) (high .lot) k) ⌝ }
+{
+    if low.lot == 0 {
         return 0;
     }
-    if i >= k {
-        return if k >= j { 0 } else { range_back(tape, k + 1, j).best };
+    if low.lot >= k {
+        return if k >= high.lot {
+            0
+        } else {
+            behind(tape, low, high, k).best
+        };
     }
-    let a = range_back(tape, i, k - 1).best;
-    if k >= j {
+    let before = mark_at(tape, low, k - 1);
+    let a = range_back(tape, low, before).best;
+    if k >= high.lot {
         return a;
     }
-    let right = range_back(tape, k + 1, j);
-    if left_first(tape, lots, k, a, right.above) { a } else { right.best }
+    let here = mark_at(tape, before, k);
+    let next = mark_at(tape, here, k + 1);
+    let right = range_back(tape, next, high);
+    let left = mark_at(tape, low, a);
+    let around = Around { before, here, next };
+    if left_first(tape, lots, first, left, around, right.above) {
+        a
+    } else {
+        right.best
+    }
+}
+
+/// Back from `high` to the lot after `k`.
+fn behind<T: Tape>(tape: &T, low: Mark, high: Mark, k: u32) -> Climb
+    requires { ⌜ k < 4294967295 ⌝ }
+    ensures { λ r. ⌜ (Marked (T·Tape .bits (now (tape .entry))) low → Marked (T·Tape .bits (now (tape .entry))) high → low .lot ≤ k + 1 → r ≡ reach (T·Tape .bits (now (tape .entry))) (k + 1) (high .lot)) ⌝ }
+{
+    let next = mark_at(tape, low, k + 1);
+    range_back(tape, next, high)
 }
 
 /// A lot by its number, or none where that is 0.
@@ -58,7 +106,10 @@ pub struct Pair {
 pub fn pair_of<T: Tape>(tape: &T, lots: u32, i: u32, j: u32) -> Pair
     ensures { λ r. ⌜ Shows (T·Tape .bits (now (tape .entry))) lots i j r ⌝ }
 {
-    let best = range_back(tape, i, j).best;
-    let second = lot_of(runner_up(tape, lots, i, j, best));
+    let first = first_mark(tape);
+    let low = mark_at(tape, first, i);
+    let high = mark_at(tape, low, j);
+    let best = range_back(tape, low, high).best;
+    let second = lot_of(runner_up(tape, lots, first, low, high, best));
     Pair { best, second }
 }

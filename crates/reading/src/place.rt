@@ -2,13 +2,13 @@
 
 ghost use mathlib.Core.Path.{_≡_};
 ghost use mathlib.Core.Bool.{true, false, cond, _&&_, not};
-ghost use Prim.Native.Nat.{_≤_};
+ghost use Prim.Native.Nat.{_-_, _≤_};
 ghost use lib.ListN.{take, drop};
 ghost use Rattle.leaders.specs.Tree.{sooner};
-ghost use Rattle.reading.specs.Place.{lones};
+ghost use Rattle.reading.specs.Place.{lones, Marked};
 ghost use Rattle.reading.specs.Reading.{wordAt};
+use crate::climb::Mark;
 use crate::climb::range_back;
-use crate::climb::start_of;
 use bits::tape::Tape;
 
 /// Is this an empty run after one that is not?
@@ -41,16 +41,17 @@ pub fn lone_lots<T: Tape>(tape: &T, from: usize, upto: usize) -> usize
     count
 }
 
-/// Where the word of lot `k` begins, of `lots` lots.
-pub fn word_at<T: Tape>(tape: &T, lots: u32, k: u32) -> usize
-    requires { ⌜ 2 ≤ k ⌝ }
-    ensures { λ r. ⌜ r ≡ wordAt (T·Tape .bits (now (tape .entry))) lots k ⌝ }
+/// Where the spine of the lot at `here` begins, of `lots` lots; `first` marks lot 1, and `before` the lot before.
+pub fn word_at<T: Tape>(tape: &T, lots: u32, first: Mark, before: Mark, here: Mark) -> usize
+    requires lot { ⌜ 2 ≤ here .lot ⌝ }
+    requires short { ⌜ here .at ≤ 32768 ⌝ }
+    ensures { λ r. ⌜ (Marked (T·Tape .bits (now (tape .entry))) first → Marked (T·Tape .bits (now (tape .entry))) before → Marked (T·Tape .bits (now (tape .entry))) here → first .lot ≡ 1 → before .lot ≡ here .lot - 1 → r ≡ wordAt (T·Tape .bits (now (tape .entry))) lots (here .lot)) ⌝ }
 {
-    let first = start_of(tape, 1);
-    let here = start_of(tape, k);
-    let children = here.saturating_sub(first).saturating_sub(k as usize - 1);
-    let lone = lone_lots(tape, first, here);
-    let depth = range_back(tape, 1, k - 1).steps as usize + 1;
+    let children = here.at
+        .saturating_sub(first.at)
+        .saturating_sub(here.lot as usize - 1);
+    let lone = lone_lots(tape, first.at, here.at);
+    let depth = range_back(tape, first, before).steps as usize + 1;
     (2 * lots as usize + 2 + children + lone).saturating_sub(depth)
 }
 
@@ -75,4 +76,3 @@ pub fn zero_first<T: Tape>(tape: &T, from: usize, x: usize, y: usize) -> bool
     }
     false
 }
-

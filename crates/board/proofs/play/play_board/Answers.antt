@@ -14,9 +14,8 @@ use Rattle.board.proofs.play.play_board.Needs as need
 pub returns : need.returns
 returns g c =
     let bits = g .T·Tape .bits (c .args .tape) in
-    let s = sitting (c .args .calls .now) (map (answered told) (vec-items (c .play-into .result))) (map (g .D·Panel .shows) (c .play-into .last .panels)) in
-    let ss = map (g .D·Panel .shows) (c .args .panels .now) in
-    let held : (b : ℕ → ℕ → Bool) → Knows b (lotsBy (verdict bits)) bits → Sat b (verdict bits) s = λ b k. sat (verdict bits) b ss s (c .play-into .ensures b k .0) (c .play-into .ensures b k .1) in
+    let s = sitting (map (g .D·Panel .shows) (c .args .panels .now)) (c .args .calls .now) (map (answered told) (vec-items (c .play-into .result))) (map (g .D·Panel .shows) (c .play-into .last .panels)) in
+    let held : (b : ℕ → ℕ → Bool) → Knows b (lotsBy (verdict bits)) bits → Sat b (verdict bits) s = λ b k. sat (verdict bits) b s (c .play-into .ensures b k .0) (c .play-into .ensures b k .1) in
     record {
       sat = held;
       leads = λ b strict n few e. let h = knows-sheet b strict n few bits e in subst (λ v. Sat b v s) (h .0) (held b (h .1));

@@ -29,7 +29,7 @@ loop-call-again g c =
     let ok : isOk (c .push .result) ≡ true = c .push .ensures .succeeds room in
     let pushed : vec-items (c .push .last .self) ≡ vec-items (c .loop-call .answers) ++ c .perform-answer .result ∷ [] = c .push .ensures .items ∙ rw ok in
     let items : map (answered told) (vec-items (c .push .last .self)) ≡ map (answered told) (vec-items (c .loop-call .answers)) ++ answered told (c .perform-answer .result) ∷ [] =
-        ap (map (answered told)) pushed ∙ map-push (answered told) (vec-items (c .loop-call .answers)) (c .perform-answer .result) in
+    ap (map (answered told)) pushed ∙ map-push (answered told) (vec-items (c .loop-call .answers)) (c .perform-answer .result) in
     let l = c .loop-call .board .lots in
     let k = c .perform-answer .last .board .lots in
     let ss = shown (c .loop-call .panels) in

@@ -33,13 +33,14 @@ loop-call-again g c =
     let answer = answered told (c .perform-answer .result) in
     let pushed : vec-items (c .push .last .self) ≡ vec-items (c .loop-call .answers) ++ c .perform-answer .result ∷ [] = c .push .ensures .items ∙ rw ok in
     let items : map (answered told) (vec-items (c .push .last .self)) ≡ map (answered told) (vec-items (c .loop-call .answers)) ++ answer ∷ [] =
-        ap (map (answered told)) pushed ∙ map-push (answered told) (vec-items (c .loop-call .answers)) (c .perform-answer .result) in (
+    ap (map (answered told)) pushed ∙ map-push (answered told) (vec-items (c .loop-call .answers)) (c .perform-answer .result) in (
       c .perform-answer .ensures .kept ∙ inv .0,
       c .perform-answer .ensures .lender ∙ inv .1,
       c .perform-answer .ensures .rooms ∙ inv .2,
       run-more (terms made ge most rooms work) xs i _ (c .loop-call-test .taken) (keysIn (c .loop-call .book)) (keysIn (c .perform-answer .last .book)) (bits (c .loop-call .punches)) (bits (c .perform-answer .last .punches)) (map (answered told) (vec-items (c .loop-call .answers))) (map (answered told) (vec-items (c .push .last .self))) answer _ terms-are (c .perform-answer .ensures .steps) items ∙ inv .3,
       c .push .ensures .len ∙ rw ok (ap (λ z. z + 1) (inv .4)),
       omega (arith, inv .5, c .push .ensures .capacity),
+      c .perform-answer .ensures .rest ∙ inv .6,
     )
 
 pub returns : need.returns
@@ -59,4 +60,5 @@ returns g c =
     record {
       ledger = search (needs, all, sym (inv .1 ∙ c .new-book .ensures .lender));
       rooms = inv .2;
+      rest = inv .6;
     }

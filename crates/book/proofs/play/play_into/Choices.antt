@@ -20,3 +20,4 @@ Inv-loop-call g l =
     × (after t (ledger (keysIn (l .book)) (map (g .P·Punch .written) (l .punches)) (map (answered told) (vec-items (l .answers)))) (drop (l .call-index) (l .calls)) ≡ after t (ledger [] (map (g .P·Punch .written) (l .entry .punches)) []) (l .calls))
     × (vec-len (l .answers) ≡ l .call-index)
     × (length (l .calls) ≤ vec-cap (l .answers))
+    × (drop 16004 (l .work) ≡ drop 16004 (l .entry .work))

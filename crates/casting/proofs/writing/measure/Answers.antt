@@ -29,12 +29,13 @@ pub loop-k-again : need.loop-k-again
 loop-k-again g c =
     let f : ℕ → List Bool = spineOf (g .L·Lots .order (c .args .lots .now)) (c .args .n) in
     let k = c .loop-k .k in
-    let e = spread-step f (c .args .n + 1) k (c .loop-k-test .taken) in
-    (λ m p q. elim (cases-eq m k) [
+    let e = spread-step f (c .args .n + 1) k (c .loop-k-test .taken) in (
+      λ m p q. elim (cases-eq m k) [
         | inl z ↦ (rw z (getD-set-same (c .loop-k .sizes) k (c .saturating-sub-size .result) 0 (omega (arith, c .loop-k .kept .sizes, c .pre .lengths .0)) ∙ size-is g c))
         | inr z ↦ getD-set-other (c .loop-k .sizes) k m (c .saturating-sub-size .result) 0 z ∙ c .loop-k .inv .0 m p (omega arith)
       ],
-      omega (arith, size-is g c, ap length e, length-append (f k) (spread f (k + 1) (c .args .n + 1 - (k + 1))), c .loop-k .inv .1))
+      omega (arith, size-is g c, ap length e, length-append (f k) (spread f (k + 1) (c .args .n + 1 - (k + 1))), c .loop-k .inv .1),
+    )
 
 pub returns : need.returns
 returns g c =

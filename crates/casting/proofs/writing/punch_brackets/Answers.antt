@@ -28,9 +28,11 @@ loop-j-again g c =
     let P = g .P·Punch in
     let f : ℕ → List Bool = λ j. unary (getD (c .args .kids .now) j 0) in
     let n = length (c .args .kids .now) in
-    let e = spread-step f n (c .loop-j .j) (c .loop-j-test .taken) in
-    (puts (P .written (c .loop-j .punch)) _ (f (c .loop-j .j)) (spread f (c .loop-j .j + 1) (n - (c .loop-j .j + 1))) _ (c .punch-count .ensures .bits) (rw e at (c .loop-j .inv .0)),
-      c .punch-count .ensures .room ∙ c .loop-j .inv .1, c .punch-count .ensures .home ∙ c .loop-j .inv .2)
+    let e = spread-step f n (c .loop-j .j) (c .loop-j-test .taken) in (
+      puts (P .written (c .loop-j .punch)) _ (f (c .loop-j .j)) (spread f (c .loop-j .j + 1) (n - (c .loop-j .j + 1))) _ (c .punch-count .ensures .bits) (rw e at (c .loop-j .inv .0)),
+      c .punch-count .ensures .room ∙ c .loop-j .inv .1,
+      c .punch-count .ensures .home ∙ c .loop-j .inv .2,
+    )
 
 pub returns : need.returns
 returns g c =

@@ -18,9 +18,11 @@ loop-again g c =
     let P = g .P·Punch in
     let all = P .written (c .args .punch .now) ++ unary (c .args .count) in
     let fits : length all ≤ P .room (c .loop .punch) = omega (arith, c .pre, c .loop .inv .1, length-append (P .written (c .args .punch .now)) (unary (c .args .count)), unary-length (c .args .count)) in
-    let e = unary-step (c .args .count) (c .loop .counter) (c .loop-test .taken) in
-    (put (c .append .result) (P .room (c .loop .punch)) (P .written (c .loop .punch)) _ true (unary (c .args .count - (c .loop .counter + 1))) all (c .append .ensures .bits) (rw e at (c .loop .inv .0)) fits,
-      c .append .ensures .room ∙ c .loop .inv .1, c .append .ensures .home ∙ c .loop .inv .2)
+    let e = unary-step (c .args .count) (c .loop .counter) (c .loop-test .taken) in (
+      put (c .append .result) (P .room (c .loop .punch)) (P .written (c .loop .punch)) _ true (unary (c .args .count - (c .loop .counter + 1))) all (c .append .ensures .bits) (rw e at (c .loop .inv .0)) fits,
+      c .append .ensures .room ∙ c .loop .inv .1,
+      c .append .ensures .home ∙ c .loop .inv .2,
+    )
 
 pub returns : need.returns
 returns g c =

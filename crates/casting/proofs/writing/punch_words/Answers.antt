@@ -40,9 +40,11 @@ loop-k-again g c =
     let n = c .args .n in
     let most : k ≤ n = omega arith in
     let e = spread-step f (n + 1) k (c .loop-k-test .taken) in
-    let z = ap (λ t. merge b (c .args .left .now) (c .args .right .now) t (getD (c .args .left .now) k 0) (getD (c .args .right .now) k 0)) (c .pre .sized k (c .loop-k .kept .k) most) ∙ c .pre .ready .word k (c .loop-k .kept .k) most in
-    (puts (P .written (c .loop-k .punch)) (P .written (c .punch-word .last .punch)) (f k) (spread f (k + 1) (n + 1 - (k + 1))) _ (c .punch-word .ensures .bits ∙ ap (λ w. P .written (c .loop-k .punch) ++ w) z) (rw e at (c .loop-k .inv .0)),
-      c .punch-word .ensures .room ∙ c .loop-k .inv .1, c .punch-word .ensures .home ∙ c .loop-k .inv .2)
+    let z = ap (λ t. merge b (c .args .left .now) (c .args .right .now) t (getD (c .args .left .now) k 0) (getD (c .args .right .now) k 0)) (c .pre .sized k (c .loop-k .kept .k) most) ∙ c .pre .ready .word k (c .loop-k .kept .k) most in (
+      puts (P .written (c .loop-k .punch)) (P .written (c .punch-word .last .punch)) (f k) (spread f (k + 1) (n + 1 - (k + 1))) _ (c .punch-word .ensures .bits ∙ ap (λ w. P .written (c .loop-k .punch) ++ w) z) (rw e at (c .loop-k .inv .0)),
+      c .punch-word .ensures .room ∙ c .loop-k .inv .1,
+      c .punch-word .ensures .home ∙ c .loop-k .inv .2,
+    )
 
 pub returns : need.returns
 returns g c =

@@ -20,8 +20,7 @@ loop-p-again g c =
     let short : c .if-upto-n .end ≤ length bs = elim (c .if-upto-n .came) [ then-upto-n w ↦ omega (arith, w .end-is, w .if-upto-n .taken, c .len-n .ensures .is) | else-upto-n w ↦ omega (arith, w .end-is, c .len-n .ensures .is) ] in
     let k = back-bound b (c .loop-p .s) in
     let m = ap (λ z. z .above) (c .step-back-s .ensures) in
-    let n = ap (λ z. z .steps) (c .step-back-s .ensures) in
-    (
+    let n = ap (λ z. z .steps) (c .step-back-s .ensures) in (
       c .step-back-s .ensures ∙ ap (back b) (c .loop-p .inv .0) ∙ climb-more bs (c .loop-p .p) (c .if-upto-n .end) b (at (c .args .lot) (c .args .lot) 0 0) (omega arith) (omega arith) short e,
       omega (arith, k .0, m, c .loop-p .inv .1),
       omega (arith, k .1, n, c .loop-p .inv .2),

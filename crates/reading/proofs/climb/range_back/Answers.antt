@@ -4,4 +4,4 @@ use Rattle.reading.proofs.climb.range_back.Needs as need
 
 pub returns : need.returns
 unfolding reach
-returns g c h k = rw (sym (c .start-of-from .ensures .is h), sym (c .start-of-upto .ensures .is k)) (c .climb-back .ensures)
+returns g c h k = rw (sym h, sym k) (c .climb-back .ensures)

@@ -9,14 +9,14 @@ use Rattle.reading.proofs.place.word_at.Needs as need
 
 pub returns : need.returns
 unfolding wordAt
-returns g c =
+returns g c fm bm hm one below =
     let bs = g .T·Tape .bits (c .args .tape .now) in
-    let k = c .args .k in
-    let first : c .start-of-first .result ≡ after 1 bs = c .start-of-first .ensures .is (omega arith) in
-    let here : c .start-of-here .result ≡ after k bs = c .start-of-here .ensures .is (omega arith) in
+    let k = c .args .here .lot in
+    let first : c .args .first .at ≡ after 1 bs = fm ∙ ap (λ z. after z bs) one in
     let lone : c .lone-lots-lone .result ≡ lones true false (drop (after 1 bs) (take (after k bs) bs)) =
-        c .lone-lots-lone .ensures .is
-        ∙ ap (λ z. lones true false (drop z (take (c .start-of-here .result) bs))) first
-        ∙ ap (λ z. lones true false (drop (after 1 bs) (take z bs))) here in
-    let depth = ap (λ z. z .steps) (c .range-back .ensures (omega arith) (omega arith)) in
-    omega (arith, first, here, lone, depth)
+    c .lone-lots-lone .ensures .is
+    ∙ ap (λ z. lones true false (drop z (take (c .args .here .at) bs))) first
+    ∙ ap (λ z. lones true false (drop (after 1 bs) (take z bs))) hm in
+    let depth : c .range-back .result .steps ≡ reach bs 1 (k - 1) .steps =
+    ap (λ z. z .steps) (c .range-back .ensures fm bm) ∙ ap (λ z. reach bs z (c .args .before .lot) .steps) one ∙ ap (λ z. reach bs 1 z .steps) below in
+    omega (arith, first, hm, lone, depth)

@@ -1,4 +1,3 @@
-use mathlib.Core.Path.{ap, sym, _∙_}
 use native.Mathlib.Omega.{arith}
 use Rattle.bits.proofs.Letters.{letters-exact}
 use Rattle.bits.proofs.punch.LetteredPunch.tape.Needs as need

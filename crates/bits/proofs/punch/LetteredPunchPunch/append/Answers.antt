@@ -1,10 +1,9 @@
 use mathlib.Core.Path.{_≡_, refl, sym, ap, _∙_}
 use Prim.Native.Nat.{_+_, _<_}
-use mathlib.Core.List.{[], _∷_, _++_}
 use native.Mathlib.Omega.{arith}
 use lib.ListN.{length, set}
 use Rattle.std.proofs.shelf.Lists.{length-set}
-use Rattle.bits.specs.Punching.{letters, letter, letterRoom}
+use Rattle.bits.specs.Punching.{letters, letter}
 use Rattle.bits.proofs.Letters.{length-written, lettered-push}
 use Rattle.bits.proofs.punch.LetteredPunchPunch.append.Needs as need
 use Rattle.bits.proofs.punch.LetteredPunchPunch.append.Needs.{then-bit, else-bit}

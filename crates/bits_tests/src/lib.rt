@@ -1,0 +1,8 @@
+//! Examples at the edges of tapes, punches and packing.
+
+#[cfg(test)]
+mod punches;
+#[cfg(test)]
+mod tapes;
+#[cfg(test)]
+mod texts;
