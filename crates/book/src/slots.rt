@@ -6,7 +6,7 @@ ghost use lib.ListN.{length, take, set};
 ghost use Rattle.std.specs.shelf.Lists.{removed};
 
 /// Writes a key at a place.
-pub fn put<K: Copy>(list: &mut [K], at: usize, key: K)
+pub(crate) fn put<K: Copy>(list: &mut [K], at: usize, key: K)
     requires { ⌜ at < length (now list) ⌝ }
     ensures { λ _. ⌜ now (list .exit) ≡ set (now (list .entry)) at key ⌝ }
 {
@@ -14,7 +14,7 @@ pub fn put<K: Copy>(list: &mut [K], at: usize, key: K)
 }
 
 /// Takes the key at a place out of the first `count`: those after it move down by one.
-pub fn close<K: Copy>(list: &mut [K], at: usize, count: usize)
+pub(crate) fn close<K: Copy>(list: &mut [K], at: usize, count: usize)
     requires { ⌜ at < count ⌝ ∗ ⌜ count ≤ length (now list) ⌝ }
     ensures { λ _. ⌜ take (count - 1) (now (list .exit)) ≡ removed (take count (now (list .entry))) at ⌝ }
 {

@@ -36,7 +36,7 @@ fn zero(xs: &mut [u32])
 }
 
 /// Links all lots.
-pub fn link<L: Lots>(
+pub(crate) fn link<L: Lots>(
     lots: &L,
     up: &mut [u32],
     left: &mut [u32],

@@ -172,7 +172,7 @@ fn punch_sheet<L: Lots, P: Punch>(
 }
 
 /// Punches the sheet of linked lots, if there is room for it.
-pub fn punch_linked<L: Lots, P: Punch>(
+pub(crate) fn punch_linked<L: Lots, P: Punch>(
     lots: &L,
     punch: &mut P,
     up: &mut [u32],

@@ -11,14 +11,14 @@ ghost use Rattle.packed.specs.Packed.{allBits, packedRoom, putBit};
 const MOST_BYTES: usize = 4_096;
 
 /// How many bits the bytes hold, 32,768 at most.
-pub fn room_of(bytes: &[u8]) -> usize
+pub(crate) fn room_of(bytes: &[u8]) -> usize
     ensures { λ r. ⌜ r ≡ packedRoom (now (bytes .entry)) ⌝ }
 {
     bytes.len().min(MOST_BYTES) * 8
 }
 
 /// The bit at `p`.
-pub fn bit_at(bytes: &[u8], p: usize) -> bool
+pub(crate) fn bit_at(bytes: &[u8], p: usize) -> bool
     requires { ⌜ p < 8 * length (now bytes) ⌝ }
     ensures { λ r. ⌜ Some r ≡ bitAt (allBits (now (bytes .entry))) p ⌝ }
 {
@@ -27,7 +27,7 @@ pub fn bit_at(bytes: &[u8], p: usize) -> bool
 }
 
 /// The ones among the first `end` bits: whole bytes at a time, then the highest bits of the next.
-pub fn ones_before(bytes: &[u8], end: usize) -> usize
+pub(crate) fn ones_before(bytes: &[u8], end: usize) -> usize
     requires { ⌜ end ≤ 8 * length (now bytes) ⌝ ∗ ⌜ end ≤ 32768 ⌝ }
     ensures { λ r. ⌜ r ≡ rankOf (allBits (now (bytes .entry))) end ⌝ }
 {
@@ -44,7 +44,7 @@ pub fn ones_before(bytes: &[u8], end: usize) -> usize
 }
 
 /// Writes the bit at `p`: the bits before it stay, and those after it in its byte become 0.
-pub fn put_bit(bytes: &mut [u8], p: usize, bit: bool)
+pub(crate) fn put_bit(bytes: &mut [u8], p: usize, bit: bool)
     requires { ⌜ p < 8 * length (now bytes) ⌝ }
     ensures { λ _. ⌜ now (bytes .exit) ≡ set (now (bytes .entry)) (p / 8) (putBit (getD (now (bytes .entry)) (p / 8) 0) (p % 8) bit) ⌝ }
 {

@@ -6,7 +6,7 @@ ghost use Rattle.panel.specs.Numerals.{numeral};
 ghost use Rattle.panel.specs.Inner.{inked, place, grown, reading};
 
 /// How many decimal digits a number has; nought has none.
-pub fn width(n: u32) -> usize
+pub(crate) fn width(n: u32) -> usize
     ensures { λ r. ⌜ r ≡ length (digitsOf 10 n) ⌝ }
 {
     let mut digits: usize = 0;
@@ -19,7 +19,7 @@ pub fn width(n: u32) -> usize
 }
 
 /// Writes a number in these glyphs so that its last digit stands before `end`; nought writes nothing.
-pub fn write(cells: &mut [u8], end: usize, n: u32, glyphs: &[u8; 10])
+pub(crate) fn write(cells: &mut [u8], end: usize, n: u32, glyphs: &[u8; 10])
     requires room { ⌜ length (digitsOf 10 n) ≤ end ⌝ }
     requires within { ⌜ end ≤ length (now cells) ⌝ }
     ensures { λ _. ⌜ now (cells .exit) ≡ inked (now (cells .entry)) end (numeral (now (glyphs .entry)) n) ⌝ }
@@ -34,7 +34,7 @@ pub fn write(cells: &mut [u8], end: usize, n: u32, glyphs: &[u8; 10])
 }
 
 /// Where a cell stands first, or the length if it is not there.
-pub fn first_place(cells: &[u8], cell: u8) -> usize
+pub(crate) fn first_place(cells: &[u8], cell: u8) -> usize
     ensures within { λ r. ⌜ r ≤ length (now (cells .entry)) ⌝ }
     ensures first { λ r. ⌜ r ≡ place (now (cells .entry)) cell ⌝ }
 {
@@ -58,7 +58,7 @@ fn grow(n: u32, cell: u8, glyphs: &[u8; 10]) -> u32
 }
 
 /// The number that stands in these cells, in these glyphs, among cells that are no glyphs.
-pub fn read(cells: &[u8], glyphs: &[u8; 10]) -> u32
+pub(crate) fn read(cells: &[u8], glyphs: &[u8; 10]) -> u32
     ensures { λ r. ⌜ r ≡ reading (now (glyphs .entry)) 0 (now (cells .entry)) ⌝ }
 {
     let mut n = 0;

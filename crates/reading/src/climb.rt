@@ -18,7 +18,7 @@ pub struct Climb {
 }
 
 /// One bit back.
-pub fn step_back(bit: bool, s: Climb) -> Climb
+pub(crate) fn step_back(bit: bool, s: Climb) -> Climb
     requires { ⌜ s .above < 65536 ⌝ ∗ ⌜ s .steps < 65536 ⌝ }
     ensures { λ r. ⌜ r ≡ back bit s ⌝ }
 {
@@ -48,7 +48,7 @@ pub fn step_back(bit: bool, s: Climb) -> Climb
 }
 
 /// From the lot `lot`, whose number begins at `upto`, back to the lot whose number begins at `from`.
-pub fn climb_back<T: Tape>(tape: &T, from: usize, upto: usize, lot: u32) -> Climb
+pub(crate) fn climb_back<T: Tape>(tape: &T, from: usize, upto: usize, lot: u32) -> Climb
     ensures { λ r. ⌜ r ≡ climb (drop from (take upto (T·Tape .bits (now (tape .entry))))) (at lot lot 0 0) ⌝ }
 {
     let n = tape.len();
@@ -73,7 +73,7 @@ pub struct Mark {
 }
 
 /// The bit after the next `lots` zeros from `from` on, or the end where there are fewer.
-pub fn skip<T: Tape>(tape: &T, from: usize, lots: u32) -> usize
+pub(crate) fn skip<T: Tape>(tape: &T, from: usize, lots: u32) -> usize
     ensures is { λ r. ⌜ r ≡ from + after lots (drop from (T·Tape .bits (now (tape .entry)))) ⌝ }
     ensures short { λ r. ⌜ (from ≤ 32768 → r ≤ 32768) ⌝ }
 {
@@ -91,7 +91,7 @@ pub fn skip<T: Tape>(tape: &T, from: usize, lots: u32) -> usize
 }
 
 /// The mark of lot 1.
-pub fn first_mark<T: Tape>(tape: &T) -> Mark
+pub(crate) fn first_mark<T: Tape>(tape: &T) -> Mark
     ensures is { λ r. ⌜ Marked (T·Tape .bits (now (tape .entry))) r ⌝ }
     ensures lot { λ r. ⌜ r .lot ≡ 1 ⌝ }
     ensures short { λ r. ⌜ r .at ≤ 32768 ⌝ }
@@ -101,7 +101,7 @@ pub fn first_mark<T: Tape>(tape: &T) -> Mark
 }
 
 /// The mark of a lot, from that of one that is no higher.
-pub fn mark_at<T: Tape>(tape: &T, from: Mark, lot: u32) -> Mark
+pub(crate) fn mark_at<T: Tape>(tape: &T, from: Mark, lot: u32) -> Mark
     ensures is { λ r. ⌜ (Marked (T·Tape .bits (now (tape .entry))) from → from .lot ≤ lot → Marked (T·Tape .bits (now (tape .entry))) r) ⌝ }
     ensures lot { λ r. ⌜ r .lot ≡ lot ⌝ }
     ensures short { λ r. ⌜ (from .at ≤ 32768 → r .at ≤ 32768) ⌝ }
@@ -111,7 +111,7 @@ pub fn mark_at<T: Tape>(tape: &T, from: Mark, lot: u32) -> Mark
 }
 
 /// From the lot at `high` back to the lot at `low`.
-pub fn range_back<T: Tape>(tape: &T, low: Mark, high: Mark) -> Climb
+pub(crate) fn range_back<T: Tape>(tape: &T, low: Mark, high: Mark) -> Climb
     ensures { λ r. ⌜ (Marked (T·Tape .bits (now (tape .entry))) low → Marked (T·Tape .bits (now (tape .entry))) high → r ≡ reach (T·Tape .bits (now (tape .entry))) (low .lot) (high .lot)) ⌝ }
 {
     climb_back(tape, low.at, high.at, high.lot)

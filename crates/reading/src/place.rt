@@ -12,7 +12,7 @@ use crate::climb::range_back;
 use bits::tape::Tape;
 
 /// Is this an empty run after one that is not?
-pub fn one_more(before: bool, here: bool) -> usize
+pub(crate) fn one_more(before: bool, here: bool) -> usize
     ensures is { λ r. ⌜ r ≡ cond (before && not here) 1 0 ⌝ }
     ensures short { λ r. ⌜ r ≤ 1 ⌝ }
 {
@@ -20,7 +20,7 @@ pub fn one_more(before: bool, here: bool) -> usize
 }
 
 /// How many of the lots whose numbers stand from `from` to `upto` have none below them on either side.
-pub fn lone_lots<T: Tape>(tape: &T, from: usize, upto: usize) -> usize
+pub(crate) fn lone_lots<T: Tape>(tape: &T, from: usize, upto: usize) -> usize
     ensures is { λ r. ⌜ r ≡ lones true false (drop from (take upto (T·Tape .bits (now (tape .entry))))) ⌝ }
     ensures short { λ r. ⌜ r ≤ 32768 ⌝ }
 {
@@ -42,7 +42,7 @@ pub fn lone_lots<T: Tape>(tape: &T, from: usize, upto: usize) -> usize
 }
 
 /// Where the spine of the lot at `here` begins, of `lots` lots; `first` marks lot 1, and `before` the lot before.
-pub fn word_at<T: Tape>(tape: &T, lots: u32, first: Mark, before: Mark, here: Mark) -> usize
+pub(crate) fn word_at<T: Tape>(tape: &T, lots: u32, first: Mark, before: Mark, here: Mark) -> usize
     requires lot { ⌜ 2 ≤ here .lot ⌝ }
     requires short { ⌜ here .at ≤ 32768 ⌝ }
     ensures { λ r. ⌜ (Marked (T·Tape .bits (now (tape .entry))) first → Marked (T·Tape .bits (now (tape .entry))) before → Marked (T·Tape .bits (now (tape .entry))) here → first .lot ≡ 1 → before .lot ≡ here .lot - 1 → r ≡ wordAt (T·Tape .bits (now (tape .entry))) lots (here .lot)) ⌝ }
@@ -56,7 +56,7 @@ pub fn word_at<T: Tape>(tape: &T, lots: u32, first: Mark, before: Mark, here: Ma
 }
 
 /// Does a zero that `x` zeros precede, from `from` on, come before a one that `y` ones precede?
-pub fn zero_first<T: Tape>(tape: &T, from: usize, x: usize, y: usize) -> bool
+pub(crate) fn zero_first<T: Tape>(tape: &T, from: usize, x: usize, y: usize) -> bool
     ensures { λ r. ⌜ r ≡ sooner (drop from (T·Tape .bits (now (tape .entry)))) x y ⌝ }
 {
     let mut zeros = x;
