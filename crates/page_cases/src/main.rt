@@ -4,6 +4,8 @@ use bits::tape::LetteredTape;
 use bits::tape::LetteredTapeTape;
 use board::board::Board;
 use board::fault::BoardFault;
+use packed::tape::PackedTape;
+use packed::tape::PackedTapeTape;
 use panel::Panel;
 use panel::digit_panel::DigitPanel;
 use panel::digit_panel::DigitsAsPanel;
@@ -69,6 +71,34 @@ fn take_case(rt: &LibcRuntime, letters: &str) -> Result<(), AnyError> {
             }
         }
     }
+    Ok(())
+}
+
+/// One number for the answer to a take: the lots, or 16 times the refusal's number with its lot added.
+fn code_of(answer: Result<u32, BoardFault>) -> u32 {
+    match answer {
+        Ok(lots) => lots,
+        Err(BoardFault::Sheet(SheetFault::BadWord(lot))) => lot.wrapping_add(160),
+        Err(fault) => fault.number().wrapping_mul(16),
+    }
+}
+
+/// `all,BITS`: takes every sheet of so many bits, 16 at most, and prints how many are accepted, and the 32-bit FNV-1a digest of all answers.
+fn all_case(rt: &LibcRuntime, count: &str) -> Result<(), AnyError> {
+    let bits = count.parse::<u32>()?.min(16);
+    let mut accepted = 0u32;
+    let mut sum = 0x811C_9DC5u32;
+    for number in 0..(1u32 << bits) {
+        let bytes = (number << (16 - bits)).to_be_bytes();
+        let mut board = Board::new(PackedTape {
+            bytes: &bytes[2..4],
+            count: bits as usize,
+        });
+        let code = code_of(board.take());
+        accepted = accepted.wrapping_add(u32::from(code < 16));
+        sum = (sum ^ code).wrapping_mul(0x0100_0193);
+    }
+    println!(rt, "{accepted} {sum:08x}")?;
     Ok(())
 }
 
@@ -145,6 +175,7 @@ fn answer(rt: &LibcRuntime, stand: &mut Stand, line: &str) -> Result<(), AnyErro
     let (word, rest) = line.split_once(',').unwrap_or((line, ""));
     match word {
         "take" => take_case(rt, rest),
+        "all" => all_case(rt, rest),
         "untaken" => untaken_case(rt, rest),
         "pages" => pages_case(rt, rest),
         "sheet" => {
