@@ -13,4 +13,5 @@ pub mod Rule
 pub mod Merging
 pub mod Promises
 pub mod Counting
+pub mod Judging
 pub mod Sampled

@@ -180,7 +180,7 @@ close-whole (node l w (node a y b)) p o x h = close-both l (node a y b) p o x (�
         ∙ f (p + length (counts l) + suc (ls r))
         ∙ ap Some (let y : p + length (counts l) + suc (ls r) + length (counts r) ≡ p + length (counts l ++ (unary (ls r) ++ counts r)) = simp (length-append, unary-length) (omega arith) in y)
 
-closes-code : (t : Tree) (x : List Bool) → closes (true ∷ (unary (ls t) ++ (counts t ++ x))) ≡ Some (2 * size t + 2)
+pub closes-code : (t : Tree) (x : List Bool) → closes (true ∷ (unary (ls t) ++ (counts t ++ x))) ≡ Some (2 * size t + 2)
 unfolding closes ls counts size
 closes-code leaf x = close-last 1 x
 closes-code (node l w r) x =
@@ -215,11 +215,11 @@ unfolding zeros
 zeros-some zero c st = omega arith
 zeros-some (suc n) c st = omega arith
 
-ws : Tree → ℕ
+unfoldable pub ws : Tree → ℕ
 ws leaf = 0
 ws (node l w r) = ws l + (rs l + ls r - 1) + ws r
 
-badOf : List Bool → Tree → ℕ → ℕ → ℕ → ℕ
+unfoldable pub badOf : List Bool → Tree → ℕ → ℕ → ℕ → ℕ
 badOf all leaf lot at bad = bad
 badOf all (node l w r) lot at bad =
     badOf all r (lot + size l + 1) (at + ws l + (rs l + ls r - 1)) (lowest (lot + size l + 1) (badOf all l lot at bad) (tooMany (rs l) (ls r) (take (rs l + ls r - 1) (drop (at + ws l) all))))
@@ -264,7 +264,7 @@ walk-tree all (node l w r) c st lot at bad rest h =
     ∙ walk-same all (zeros (rs r) ((ls r - ls r) ∷ (d ∷ st))) (0 ∷ zeros (rs r) (d ∷ st)) (lot + size l + 1 + size r) (lot + suc (size l + size r)) (at + ws l + size₁ + ws r) (at + (ws l + size₁ + ws r)) (badOf all r (lot + size l + 1) (at + ws l + size₁) bad₂) rest
     (ap (λ n. zeros (rs r) (n ∷ (d ∷ st))) (let y : ls r - ls r ≡ 0 = omega arith in y) ∙ zeros-more (rs r) (d ∷ st)) (omega arith) (omega arith)
 
-walk-code : (all : List Bool) (t : Tree) (m : ℕ) → walk all 0 [] 0 m 0 (unary (ls t) ++ counts t) ≡ walked (m + ws t) (badOf all t 0 m 0)
+pub walk-code : (all : List Bool) (t : Tree) (m : ℕ) → walk all 0 [] 0 m 0 (unary (ls t) ++ counts t) ≡ walked (m + ws t) (badOf all t 0 m 0)
 unfolding walk
 walk-code all t m =
     walk-unary all 0 (ls t) [] 0 m 0 (counts t)
@@ -272,11 +272,11 @@ walk-code all t m =
     ∙ ap (walk all 0 (ls t ∷ []) 0 m 0) (sym (append-nil (counts t)))
     ∙ walk-tree all t (ls t) [] 0 m 0 [] (omega arith)
 
-head-length : (t : Tree) → length (true ∷ (unary (ls t) ++ counts t)) ≡ 2 * size t + 2
+pub head-length : (t : Tree) → length (true ∷ (unary (ls t) ++ counts t)) ≡ 2 * size t + 2
 head-length t = omega (arith, length-append (unary (ls t)) (counts t), unary-length (ls t), counts-length t)
 
 -- the brackets of the bits
-heads : (t : Tree) (x s : List Bool) → s ≡ true ∷ (unary (ls t) ++ (counts t ++ x)) → (drop 1 (take (2 * size t + 2) s) ≡ unary (ls t) ++ counts t) × (drop (2 * size t + 2) s ≡ x)
+pub heads : (t : Tree) (x s : List Bool) → s ≡ true ∷ (unary (ls t) ++ (counts t ++ x)) → (drop 1 (take (2 * size t + 2) s) ≡ unary (ls t) ++ counts t) × (drop (2 * size t + 2) s ≡ x)
 heads t x s e =
     let f : s ≡ (true ∷ (unary (ls t) ++ counts t)) ++ x = e ∙ ap (_∷_ true) (sym (append-assoc (unary (ls t)) (counts t) x)) in (
       ap (λ z. drop 1 (take (2 * size t + 2) z)) f ∙ ap (drop 1) (take-at (true ∷ (unary (ls t) ++ counts t)) x (2 * size t + 2) (head-length t)),
@@ -339,14 +339,14 @@ alike-rs leaf (node l w r) s = absurd s
 alike-rs (node l w r) leaf s = absurd s
 alike-rs (node l w r) (node l′ w′ r′) s = ap suc (alike-rs r r′ (s .1))
 
-alike-size : (t u : Tree) → Alike t u → size t ≡ size u
+pub alike-size : (t u : Tree) → Alike t u → size t ≡ size u
 unfolding size
 alike-size leaf leaf s = refl
 alike-size leaf (node l w r) s = absurd s
 alike-size (node l w r) leaf s = absurd s
 alike-size (node l w r) (node l′ w′ r′) s = omega (arith, alike-size l l′ (s .0), alike-size r r′ (s .1))
 
-alike-counts : (t u : Tree) → Alike t u → counts t ≡ counts u
+pub alike-counts : (t u : Tree) → Alike t u → counts t ≡ counts u
 unfolding counts
 alike-counts leaf leaf s = refl
 alike-counts leaf (node l w r) s = absurd s
@@ -376,7 +376,7 @@ fill all (node l w r) lot at bad e h =
       ),
     )
 
-less-last : (w : List Bool) → (falses (dropLast w) ≤ falses w) × (trues (dropLast w) ≤ trues w) × (length (dropLast w) ≡ falses w + trues w - 1)
+pub less-last : (w : List Bool) → (falses (dropLast w) ≤ falses w) × (trues (dropLast w) ≤ trues w) × (length (dropLast w) ≡ falses w + trues w - 1)
 unfolding falses trues dropLast
 less-last [] = (omega arith, omega arith, refl)
 less-last (true ∷ []) = (omega arith, omega arith, refl)
@@ -388,11 +388,11 @@ not-many : (p q : ℕ) (x : List Bool) → falses x ≤ p → trues x ≤ q → 
 unfolding tooMany
 not-many p q x f g = or-from (ltb p (falses x)) (ltb q (trues x)) (le-ltb p (falses x) f) (le-ltb q (trues x) g)
 
-lowest-not : (lot : ℕ) (t : Bool) → t ≡ false → lowest lot 0 t ≡ 0
+pub lowest-not : (lot : ℕ) (t : Bool) → t ≡ false → lowest lot 0 t ≡ 0
 unfolding lowest
 lowest-not lot t e = rw e
 
-words-ws : (t : Tree) → Wellformed t → length (words t) ≡ ws t
+pub words-ws : (t : Tree) → Wellformed t → length (words t) ≡ ws t
 unfolding words ws Wellformed
 words-ws leaf v = refl
 words-ws (node l w r) v = simp length-append (omega (arith, words-ws l (v .2), words-ws r (v .3), less-last w .2, v .0, v .1))

@@ -1,18 +1,19 @@
 -- What is proved of leaders and sheets, in the words of the subject. Each is the contract of a function of this crate.
 use Prim.Native.Nat.{ℕ, zero, suc, _+_, _-_, _*_, _^_, _≤_, _<_}
 use mathlib.Core.Path.{_≡_}
-use mathlib.Core.Logic.{_↔_}
+use mathlib.Core.Logic.{_↔_, _≢_}
 use mathlib.Core.List.{List, [], _∷_, _++_}
 use mathlib.Core.Bool.{Bool, true, false, cond, _&&_}
 use lib.Dec.{ltb, eqb}
-use lib.ListN.{length, getD}
+use lib.ListN.{length, getD, take, drop}
 use Rattle.std.specs.Options.{mapped}
 use Rattle.std.specs.declared.option.Option.{Option}
 use Rattle.std.specs.declared.option.Option.the-variants.{Some, None}
-use Rattle.std.specs.declared.result.Result.the-variants.{Ok}
+use Rattle.std.specs.declared.result.Result.the-variants.{Ok, Err}
 use Rattle.leaders.specs.Order.{Strict, Best, Second, IsSecond, best, second, SameLeaders, beats, dearer}
 use Rattle.leaders.specs.Sheet.{parent, tally, spread, children, brackets, inL, inR, spineOf, spines, sheet}
-use Rattle.leaders.specs.Verdict.{verdict, mostLots}
+use Rattle.leaders.specs.Refusal.{refusal}
+use Rattle.leaders.specs.Verdict.{verdict, closes, mostLots, mostBrackets, tooMany}
 use Rattle.leaders.specs.Rebuilt.{rebuilt}
 
 -- Going through a range finds its best and its second, and there is no other best or second.
@@ -129,3 +130,35 @@ pub record Lengths (b : ℕ → ℕ → Bool) (n : ℕ) : Type 0 where
 
 abbrev pub Sheet-lengths : Type 0
 Sheet-lengths = (b : ℕ → ℕ → Bool) → Strict b → (n : ℕ) → Lengths b n
+
+-- Any bits x after the brackets of n lots, cut into words as the spines are: the word of lot k; and whether it has more 0s than L(k) has lots, or more 1s than R(k).
+abbrev pub rights : (ℕ → ℕ → Bool) → ℕ → ℕ → ℕ
+rights b n k = tally (inR b k) 1 n
+
+abbrev pub wordOf : (ℕ → ℕ → Bool) → ℕ → List Bool → ℕ → List Bool
+wordOf b n x k = take (length (spineOf b n k)) (drop (length (spread (spineOf b n) 1 (k - 1))) x)
+
+abbrev pub overfull : (ℕ → ℕ → Bool) → ℕ → List Bool → ℕ → Bool
+overfull b n x k = tooMany (lefts b n k) (rights b n k) (wordOf b n x k)
+
+-- The verdict on such bits: 9 if they are more or fewer than the spines have; else 10 with the lowest lot whose word is overfull; else the number of lots.
+pub record Judged (b : ℕ → ℕ → Bool) (n : ℕ) (x : List Bool) : Type 0 where
+  pub other-length : length x ≢ length (spines b n) → verdict (brackets b n ++ x) ≡ Err (refusal 9 [])
+  pub lowest-lot : length x ≡ length (spines b n) → (k : ℕ) → 1 ≤ k → k ≤ n → overfull b n x k ≡ true → ((m : ℕ) → 1 ≤ m → m < k → overfull b n x m ≡ false) → verdict (brackets b n ++ x) ≡ Err (refusal 10 (k ∷ []))
+  pub none : length x ≡ length (spines b n) → ((k : ℕ) → 1 ≤ k → k ≤ n → overfull b n x k ≡ false) → verdict (brackets b n ++ x) ≡ Ok n
+
+-- Bits that begin with the brackets of some order, m of them, and end with any others.
+pub record Bracketed (s : List Bool) (m : ℕ) : Type 0 where
+  pub order : ℕ → ℕ → Bool
+  pub strict : Strict order
+  pub lots : ℕ
+  pub rest : List Bool
+  pub many : m ≡ 2 * lots + 2
+  pub are : s ≡ brackets order lots ++ rest
+
+-- The verdict on all bits: those that never balance, those that balance too late, and all others, which are judged by the spines of an order with the same brackets.
+pub record JudgedBySpines : Type 0 where
+  pub never : (s : List Bool) → closes s ≡ None → verdict s ≡ Err (refusal 7 [])
+  pub late : (s : List Bool) (m : ℕ) → closes s ≡ Some m → mostBrackets < m → verdict s ≡ Err (refusal 8 [])
+  pub others : (s : List Bool) (m : ℕ) → closes s ≡ Some m → Bracketed s m
+  pub words : (b : ℕ → ℕ → Bool) → Strict b → (n : ℕ) → n ≤ mostLots → (x : List Bool) → Judged b n x

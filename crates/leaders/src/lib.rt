@@ -4,7 +4,7 @@
 
 ghost use Rattle.leaders.specs.Theorems.{Leaders-are-found, R-is-children, Equal-sheets-exactly-when-equal-leaders};
 ghost use Rattle.leaders.specs.Samples.{Samples};
-ghost use Rattle.leaders.specs.Theorems.{No-sheet-begins-another, Accepted-exactly-when-cast, Rebuilt-prices-cast-the-sheet, Second-by-the-spine, Sheet-lengths};
+ghost use Rattle.leaders.specs.Theorems.{No-sheet-begins-another, Accepted-exactly-when-cast, Rebuilt-prices-cast-the-sheet, Second-by-the-spine, Sheet-lengths, JudgedBySpines};
 
 /// Going through a range finds its best and its second, and there are no others.
 pub fn leaders_are_found() -> u8
@@ -37,6 +37,13 @@ pub fn no_sheet_begins_another() -> u8
 /// The verdict accepts bits exactly when some list of at most 4,000 prices has that sheet.
 pub fn accepted_exactly_when_cast() -> u8
     ensures { λ _. ⌜ Accepted-exactly-when-cast ⌝ }
+{
+    0
+}
+
+/// The verdict's refusals in the words of the sheet: bits that balance are the brackets of some order and bits after them, and these are judged by that order's own lists L(k) and R(k).
+pub fn words_are_judged_by_the_spines() -> u8
+    ensures { λ _. ⌜ JudgedBySpines ⌝ }
 {
     0
 }
