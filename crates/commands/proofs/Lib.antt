@@ -1,0 +1,4 @@
+pub mod Parting
+pub mod Reading
+pub mod Asking
+pub mod Decimal
