@@ -24,11 +24,11 @@ returns g c =
     let n = g.L.Lots.count c.args.lots.now in
     let e = c.len-n.ensures.count in
     record {
-      bits = c.cast-in.ensures.bits
+      bits = c.cast_in.ensures.bits
           ∙ ap (λ m. punch_of_sheet (sheet b m) (P.room c.args.punch.now) (P.written c.args.punch.now)) e
           ∙ cast_enough (sheet b n) _ n _ _ (omega arith);
-      room = c.cast-in.ensures.room;
-      home = c.cast-in.ensures.home;
-      rest = drop-append-drop (4 * (c.len-n.result + 1) - 0) c.args.work.now c.cast-in.new.work (4 * suc n) (omega arith) (omega (arith, c.cast-in.auto.work, length-take (4 * (c.len-n.result + 1) - 0) c.args.work.now));
+      room = c.cast_in.ensures.room;
+      home = c.cast_in.ensures.home;
+      rest = drop-append-drop (4 * (c.len-n.result + 1) - 0) c.args.work.now c.cast_in.new.work (4 * suc n) (omega arith) (omega (arith, c.cast_in.auto.work, length-take (4 * (c.len-n.result + 1) - 0) c.args.work.now));
       kept = λ h. absurd (omega arith);
     }

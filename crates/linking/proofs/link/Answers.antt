@@ -19,7 +19,7 @@ loop-k-init g c =
             (λ k h. c.zero.ensures k (omega (arith, c.zero.auto.xs, c.requires.lengths.2)))
             (λ k h. c.zero-2.ensures k (omega (arith, c.zero-2.auto.xs, c.requires.lengths.3)));
         free = λ x p q. absurd (omega arith);
-        ahead = (c.run-from-at.ensures (children b n 0) (rest b n 1) (rest_first b n bs e)).1;
+        ahead = (c.run_from-at.ensures (children b n 0) (rest b n 1) (rest_first b n bs e)).1;
       },
     )
 
@@ -39,11 +39,11 @@ loop-k-preserved g c =
       λ b s e.
           let i = c.loop-k.invariant.1 b s e in
           let f = c.climb-x.ensures.found b n s most (λ m p q. i.linked.parents m p (omega arith)) i.free in
-          let own = c.run-from-own.ensures (children b n k) (rest b n (k + 1)) (i.ahead ∙ rest_step b n k most) in
+          let own = c.run_from-own.ensures (children b n k) (rest b n (k + 1)) (i.ahead ∙ rest_step b n k most) in
           record {
             linked = link_more b n k c.loop-k.up c.loop-k.left c.loop-k.right c.loop-k.kids i.linked lu ll lr lk c.loop-k.auto.k most x v f.0 low.0 f.1;
-            free = subst (λ (z : List ℕ). Places b n (k + 1 - 1) (set z (k - 1) c.run-from-own.result.ones)) (sym c.take-place.ensures)
-                (places_more b n k x c.run-from-own.result.ones c.loop-k.places c.loop-k.auto.k (omega (arith, c.loop-k.auto.places, c.requires.lengths.4)) i.free f.0 low.0 c.climb-x.ensures.free own.0);
+            free = subst (λ (z : List ℕ). Places b n (k + 1 - 1) (set z (k - 1) c.run_from-own.result.ones)) (sym c.take_place.ensures)
+                (places_more b n k x c.run_from-own.result.ones c.loop-k.places c.loop-k.auto.k (omega (arith, c.loop-k.auto.places, c.requires.lengths.4)) i.free f.0 low.0 c.climb-x.ensures.free own.0);
             ahead = own.1;
           },
     )

@@ -20,7 +20,7 @@ returns g c =
     record {
       reply = enough_is n (length c.args.prices.now) (length c.args.work.now) c.if-prices-n.false (omega (arith, c.if-work-n.false));
       declined = tt;
-      written = λ b s e. ap₂ ◌++◌ (c.rebuild-in.ensures b s e) (ap (λ j. drop j c.args.prices.now) same);
-      past = drop-append-drop (n - 0) c.args.prices.now c.rebuild-in.new.prices n (omega arith) (omega (arith, c.rebuild-in.auto.prices, length-take (n - 0) c.args.prices.now, c.if-prices-n.false));
-      rest = drop-append-drop work c.args.work.now c.rebuild-in.new.work (4 * suc n) (omega arith) (omega (arith, c.rebuild-in.auto.work, length-take work c.args.work.now, c.if-work-n.false));
+      written = λ b s e. ap₂ ◌++◌ (c.rebuild_in.ensures b s e) (ap (λ j. drop j c.args.prices.now) same);
+      past = drop-append-drop (n - 0) c.args.prices.now c.rebuild_in.new.prices n (omega arith) (omega (arith, c.rebuild_in.auto.prices, length-take (n - 0) c.args.prices.now, c.if-prices-n.false));
+      rest = drop-append-drop work c.args.work.now c.rebuild_in.new.work (4 * suc n) (omega arith) (omega (arith, c.rebuild_in.auto.work, length-take work c.args.work.now, c.if-work-n.false));
     }

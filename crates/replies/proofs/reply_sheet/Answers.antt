@@ -6,5 +6,5 @@ use Rattle.replies.proofs.reply_sheet.Goals as goal
 
 pub returns : goal.returns
 returns g c =
-    three_parts c.extend-from-slice-2.result (vec_items c.args.out.now) (vec_items c.extend-from-slice.new.self) (vec_items c.push-letters.new.out) (vec_items c.extend-from-slice-2.new.self) (codes "sheet,") (map letter (g.T.Tape.bits c.args.tape.now)) (codes "\n")
-    (pushed (codes "sheet,") refl c.in-ok-extend-from-slice.was c.extend-from-slice.ensures.items) c.in-ok-push-letters.ensures c.extend-from-slice-2.ensures.items
+    three_parts c.extend_from_slice-2.result (vec_items c.args.out.now) (vec_items c.extend_from_slice.new.self) (vec_items c.push_letters.new.out) (vec_items c.extend_from_slice-2.new.self) (codes "sheet,") (map letter (g.T.Tape.bits c.args.tape.now)) (codes "\n")
+    (pushed (codes "sheet,") refl c.in_ok-extend_from_slice.was c.extend_from_slice.ensures.items) c.in_ok-push_letters.ensures c.extend_from_slice-2.ensures.items

@@ -5,7 +5,7 @@ use Rattle.board.specs.Faults.{told as boardTold}
 use Rattle.board.specs.Showing.{told, page_answer}
 use Rattle.board.proofs.play.paged.Goals as goal
 
-pub returns-in-err-reply : goal.returns-in-err-reply
-returns-in-err-reply c =
-    let p = err_from_is_err_and c.from-residual.result c.from-residual.ensures.1 in
-    ap (answered told) (p.1 ∙ ap Err p.2) ∙ sym (ap (λ z. page_answer (answered boardTold z)) c.in-err-reply.was)
+pub returns-in_err-reply : goal.returns-in_err-reply
+returns-in_err-reply c =
+    let p = err_from_is_err_and c.from_residual.result c.from_residual.ensures.1 in
+    ap (answered told) (p.1 ∙ ap Err p.2) ∙ sym (ap (λ z. page_answer (answered boardTold z)) c.in_err-reply.was)

@@ -5,7 +5,7 @@ use Rattle.board.specs.Faults.{told as boardTold}
 use Rattle.board.specs.Showing.{told, take_answer}
 use Rattle.board.proofs.play.taken.Goals as goal
 
-pub returns-in-err-lots : goal.returns-in-err-lots
-returns-in-err-lots c =
-    let p = err_from_is_err_and c.from-residual.result c.from-residual.ensures.1 in
-    ap (answered told) (p.1 ∙ ap Err p.2) ∙ sym (ap (λ z. take_answer (answered boardTold z)) c.in-err-lots.was)
+pub returns-in_err-lots : goal.returns-in_err-lots
+returns-in_err-lots c =
+    let p = err_from_is_err_and c.from_residual.result c.from_residual.ensures.1 in
+    ap (answered told) (p.1 ∙ ap Err p.2) ∙ sym (ap (λ z. take_answer (answered boardTold z)) c.in_err-lots.was)

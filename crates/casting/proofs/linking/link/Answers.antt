@@ -10,8 +10,8 @@ loop-k-init g c = link_none (g.L.Lots.order c.args.lots.now) c.args.n _ _ _ _
     (λ k h. c.zero.ensures k (omega (arith, c.zero.auto.xs, c.requires.lengths.2)))
     (λ k h. c.zero-2.ensures k (omega (arith, c.zero-2.auto.xs, c.requires.lengths.3)))
 
-pub overflow-add-kids : goal.overflow-add-kids
-overflow-add-kids g c =
+pub overflow_add-kids : goal.overflow_add-kids
+overflow_add-kids g c =
     let x = c.climb-x.result.0 in
     let e = c.loop-k.invariant.counts x (omega (arith, c.climb-x.ensures.below)) in
     omega (arith, e, tally_most (λ i. eqb (parent (g.L.Lots.order c.args.lots.now) i) x) 1 (c.loop-k.k - 1), c.requires.count.1)

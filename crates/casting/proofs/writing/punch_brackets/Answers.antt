@@ -10,8 +10,8 @@ use Rattle.casting.proofs.writing.punch_brackets.Goals as goal
 pub loop-j-init : goal.loop-j-init
 loop-j-init g c = let e : length c.args.kids.now - 0 ≡ length c.args.kids.now = omega arith in (rw e, refl, refl)
 
-pub punch-count-requires : goal.punch-count-requires
-punch-count-requires g c =
+pub punch_count-requires : goal.punch_count-requires
+punch_count-requires g c =
     let P = g.P.Punch in
     let f : ℕ → List Bool = λ j. unary (get_or c.args.kids.now j 0) in
     let n = length c.args.kids.now in
@@ -25,9 +25,9 @@ loop-j-preserved g c =
     let f : ℕ → List Bool = λ j. unary (get_or c.args.kids.now j 0) in
     let n = length c.args.kids.now in
     let e = spread_step f n c.loop-j.j c.loop-j-test.true in (
-      puts (P.written c.loop-j.punch) _ (f c.loop-j.j) (spread f (c.loop-j.j + 1) (n - (c.loop-j.j + 1))) _ c.punch-count.ensures.bits (rw e at c.loop-j.invariant.0),
-      c.punch-count.ensures.room ∙ c.loop-j.invariant.1,
-      c.punch-count.ensures.home ∙ c.loop-j.invariant.2,
+      puts (P.written c.loop-j.punch) _ (f c.loop-j.j) (spread f (c.loop-j.j + 1) (n - (c.loop-j.j + 1))) _ c.punch_count.ensures.bits (rw e at c.loop-j.invariant.0),
+      c.punch_count.ensures.room ∙ c.loop-j.invariant.1,
+      c.punch_count.ensures.home ∙ c.loop-j.invariant.2,
     )
 
 pub returns : goal.returns

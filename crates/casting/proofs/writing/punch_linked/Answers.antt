@@ -11,13 +11,13 @@ measure-requires g c = record {
   few = c.requires.count.1;
 }
 
-pub overflow-add-length-2 : goal.overflow-add-length-2
-overflow-add-length-2 g c =
+pub overflow_add-length-2 : goal.overflow_add-length-2
+overflow_add-length-2 g c =
     let s = ready_is (g.L.Lots.order c.args.lots.now) c.requires.strict c.args.n c.args.up.now c.args.left.now c.args.right.now c.args.kids.now c.requires.linked c.requires.lengths.3 in
     omega (arith, s.long, s.short, c.measure.ensures.all, c.requires.count.1)
 
-pub overflow-cast-result : goal.overflow-cast-result
-overflow-cast-result g c =
+pub overflow_cast-result : goal.overflow_cast-result
+overflow_cast-result g c =
     let s = ready_is (g.L.Lots.order c.args.lots.now) c.requires.strict c.args.n c.args.up.now c.args.left.now c.args.right.now c.args.kids.now c.requires.linked c.requires.lengths.3 in
     omega (arith, s.long, s.short, c.measure.ensures.all, c.requires.count.1)
 
@@ -30,8 +30,8 @@ returns-then-capacity-length g c =
       home = refl;
     }
 
-pub punch-sheet-requires : goal.punch-sheet-requires
-punch-sheet-requires g c =
+pub punch_sheet-requires : goal.punch_sheet-requires
+punch_sheet-requires g c =
     let s = ready_is (g.L.Lots.order c.args.lots.now) c.requires.strict c.args.n c.args.up.now c.args.left.now c.args.right.now c.args.kids.now c.requires.linked c.requires.lengths.3 in
     record {
       count = c.requires.count;
@@ -41,8 +41,8 @@ punch-sheet-requires g c =
       room = omega (arith, s.long, c.measure.ensures.all, c.capacity.ensures, c.if-capacity-length.false);
     }
 
-pub overflow-cast-result-2 : goal.overflow-cast-result-2
-overflow-cast-result-2 g c =
+pub overflow_cast-result-2 : goal.overflow_cast-result-2
+overflow_cast-result-2 g c =
     let s = ready_is (g.L.Lots.order c.args.lots.now) c.requires.strict c.args.n c.args.up.now c.args.left.now c.args.right.now c.args.kids.now c.requires.linked c.requires.lengths.3 in
     omega (arith, s.long, s.short, c.measure.ensures.all, c.requires.count.1)
 
@@ -50,7 +50,7 @@ pub returns : goal.returns
 returns g c =
     let s = ready_is (g.L.Lots.order c.args.lots.now) c.requires.strict c.args.n c.args.up.now c.args.left.now c.args.right.now c.args.kids.now c.requires.linked c.requires.lengths.3 in
     record {
-      bits = punch_whole (sheet (g.L.Lots.order c.args.lots.now) c.args.n) _ _ _ _ (omega (arith, s.long, c.measure.ensures.all, c.capacity.ensures, c.if-capacity-length.false)) c.punch-sheet.ensures.bits (omega (arith, s.long, c.measure.ensures.all));
-      room = c.punch-sheet.ensures.room;
-      home = c.punch-sheet.ensures.home;
+      bits = punch_whole (sheet (g.L.Lots.order c.args.lots.now) c.args.n) _ _ _ _ (omega (arith, s.long, c.measure.ensures.all, c.capacity.ensures, c.if-capacity-length.false)) c.punch_sheet.ensures.bits (omega (arith, s.long, c.measure.ensures.all));
+      room = c.punch_sheet.ensures.room;
+      home = c.punch_sheet.ensures.home;
     }

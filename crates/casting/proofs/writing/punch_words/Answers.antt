@@ -10,8 +10,8 @@ use Rattle.casting.proofs.writing.punch_words.Goals as goal
 pub loop-k-init : goal.loop-k-init
 loop-k-init g c = let e : c.args.n + 1 - 1 ≡ c.args.n = omega arith in (rw e, refl, refl)
 
-pub punch-word-requires : goal.punch-word-requires
-punch-word-requires g c =
+pub punch_word-requires : goal.punch_word-requires
+punch_word-requires g c =
     let P = g.P.Punch in
     let f : ℕ → List Bool = spine_of (g.L.Lots.order c.args.lots.now) c.args.n in
     let k = c.loop-k.k in
@@ -37,9 +37,9 @@ loop-k-preserved g c =
     let most : k ≤ n = omega arith in
     let e = spread_step f (n + 1) k c.loop-k-test.true in
     let z = ap (λ t. merge b c.args.left.now c.args.right.now t (get_or c.args.left.now k 0) (get_or c.args.right.now k 0)) (c.requires.sized k c.loop-k.auto.k most) ∙ c.requires.ready.word k c.loop-k.auto.k most in (
-      puts (P.written c.loop-k.punch) (P.written c.punch-word.new.punch) (f k) (spread f (k + 1) (n + 1 - (k + 1))) _ (c.punch-word.ensures.bits ∙ ap (λ w. P.written c.loop-k.punch ++ w) z) (rw e at c.loop-k.invariant.0),
-      c.punch-word.ensures.room ∙ c.loop-k.invariant.1,
-      c.punch-word.ensures.home ∙ c.loop-k.invariant.2,
+      puts (P.written c.loop-k.punch) (P.written c.punch_word.new.punch) (f k) (spread f (k + 1) (n + 1 - (k + 1))) _ (c.punch_word.ensures.bits ∙ ap (λ w. P.written c.loop-k.punch ++ w) z) (rw e at c.loop-k.invariant.0),
+      c.punch_word.ensures.room ∙ c.loop-k.invariant.1,
+      c.punch_word.ensures.home ∙ c.loop-k.invariant.2,
     )
 
 pub returns : goal.returns

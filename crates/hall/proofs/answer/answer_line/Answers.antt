@@ -35,7 +35,7 @@ returns-in-None g c =
       lots = subst (λ (o : Option Asked). ks ≡ (turn_of t (hall ks None) o).after.lots) c.in-None.ensures refl;
       bits = subst (λ (o : Option Asked). bits ≡ bits_after t ks bits o) c.in-None.ensures refl;
       turned = λ shown st. subst (λ (o : Option Asked). Turned ge (turn_of t (hall ks shown) o) ks bits) c.in-None.ensures (record { lots_are = refl; stands = st });
-      replied = λ shown st. subst (λ (o : Option Asked). IfOk c.reply-refused.result (λ _. vec_items c.reply-refused.new.out ≡ vec_items c.args.out.now ++ (turn_of t (hall ks shown) o).reply)) c.in-None.ensures c.reply-refused.ensures;
+      replied = λ shown st. subst (λ (o : Option Asked). IfOk c.reply_refused.result (λ _. vec_items c.reply_refused.new.out ≡ vec_items c.args.out.now ++ (turn_of t (hall ks shown) o).reply)) c.in-None.ensures c.reply_refused.ensures;
       room = refl;
       home = refl;
       rest = refl;

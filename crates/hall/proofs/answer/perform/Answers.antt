@@ -22,9 +22,9 @@ returns-in-Add g c =
     let bits = letters c.args.punch.now.text.now c.args.punch.now.count in
     let t = terms g.K.Key.made g.K.Key.at_least g.K.Key.arity (room_for (length c.args.book.now.list.now)) (letter_room c.args.punch.now.text.now) (length c.args.work.now) in
     let before = vec_items c.args.out.now in
-    let after = vec_items c.reply-book.new.out in
+    let after = vec_items c.reply_book.new.out in
     let ls = keys_in c.add.new.self in
-    let e = c.add.ensures.entry ∙ ap (λ z. add_key (room_for (length c.args.book.now.list.now)) ks (g.K.Key.made z)) c.as-slice.ensures in
+    let e = c.add.ensures.entry ∙ ap (λ z. add_key (room_for (length c.args.book.now.list.now)) ks (g.K.Key.made z)) c.as_slice.ensures in
     record {
       lots = subst (λ (z : Command). ls ≡ (turn_of t (hall ks None) (Some (asks z))).after.lots) (sym c.in-Add.is) (ap (λ (z : Entry _). z.lots) e);
       bits = subst (λ (z : Command). bits ≡ bits_after t ks bits (Some (asks z))) (sym c.in-Add.is) refl;
@@ -32,8 +32,8 @@ returns-in-Add g c =
           subst (λ (z : Command). Turned ge (turn_of t (hall ks shown) (Some (asks z))) ls bits) (sym c.in-Add.is)
           (book_turned ge ks ls shown bits st _ (answered told c.add.result) e);
       replied = λ shown st.
-          subst (λ (z : Command). IfOk c.reply-book.result (λ _. after ≡ before ++ (turn_of t (hall ks shown) (Some (asks z))).reply)) (sym c.in-Add.is)
-          (IfOk-weaker c.reply-book.result _ _ (λ _ w. w ∙ ap (λ (z : Entry _). before ++ book_line z.reply) e) c.reply-book.ensures);
+          subst (λ (z : Command). IfOk c.reply_book.result (λ _. after ≡ before ++ (turn_of t (hall ks shown) (Some (asks z))).reply)) (sym c.in-Add.is)
+          (IfOk-weaker c.reply_book.result _ _ (λ _ w. w ∙ ap (λ (z : Entry _). before ++ book_line z.reply) e) c.reply_book.ensures);
       room = refl;
       home = refl;
       rest = refl;
@@ -49,7 +49,7 @@ returns-in-Strike g c =
     let bits = letters c.args.punch.now.text.now c.args.punch.now.count in
     let t = terms g.K.Key.made g.K.Key.at_least g.K.Key.arity (room_for (length c.args.book.now.list.now)) (letter_room c.args.punch.now.text.now) (length c.args.work.now) in
     let before = vec_items c.args.out.now in
-    let after = vec_items c.reply-book-in-Strike.new.out in
+    let after = vec_items c.reply_book-in-Strike.new.out in
     let ls = keys_in c.strike.new.self in
     let e = c.strike.ensures.entry in
     record {
@@ -59,8 +59,8 @@ returns-in-Strike g c =
           subst (λ (z : Command). Turned ge (turn_of t (hall ks shown) (Some (asks z))) ls bits) (sym c.in-Strike.is)
           (book_turned ge ks ls shown bits st _ (answered told c.strike.result) e);
       replied = λ shown st.
-          subst (λ (z : Command). IfOk c.reply-book-in-Strike.result (λ _. after ≡ before ++ (turn_of t (hall ks shown) (Some (asks z))).reply)) (sym c.in-Strike.is)
-          (IfOk-weaker c.reply-book-in-Strike.result _ _ (λ _ w. w ∙ ap (λ (z : Entry _). before ++ book_line z.reply) e) c.reply-book-in-Strike.ensures);
+          subst (λ (z : Command). IfOk c.reply_book-in-Strike.result (λ _. after ≡ before ++ (turn_of t (hall ks shown) (Some (asks z))).reply)) (sym c.in-Strike.is)
+          (IfOk-weaker c.reply_book-in-Strike.result _ _ (λ _ w. w ∙ ap (λ (z : Entry _). before ++ book_line z.reply) e) c.reply_book-in-Strike.ensures);
       room = refl;
       home = refl;
       rest = refl;
@@ -76,23 +76,23 @@ returns-in-NewKey g c =
     let bits = letters c.args.punch.now.text.now c.args.punch.now.count in
     let t = terms g.K.Key.made g.K.Key.at_least g.K.Key.arity (room_for (length c.args.book.now.list.now)) (letter_room c.args.punch.now.text.now) (length c.args.work.now) in
     let before = vec_items c.args.out.now in
-    let after = vec_items c.reply-book-in-NewKey.new.out in
-    let ls = keys_in c.new-key.new.self in
-    let e = c.new-key.ensures.entry ∙ ap (λ z. set_key ks c.in-NewKey.lot (g.K.Key.made z)) c.as-slice-in-NewKey.ensures in
+    let after = vec_items c.reply_book-in-NewKey.new.out in
+    let ls = keys_in c.new_key.new.self in
+    let e = c.new_key.ensures.entry ∙ ap (λ z. set_key ks c.in-NewKey.lot (g.K.Key.made z)) c.as_slice-in-NewKey.ensures in
     record {
       lots = subst (λ (z : Command). ls ≡ (turn_of t (hall ks None) (Some (asks z))).after.lots) (sym c.in-NewKey.is) (ap (λ (z : Entry _). z.lots) e);
       bits = subst (λ (z : Command). bits ≡ bits_after t ks bits (Some (asks z))) (sym c.in-NewKey.is) refl;
       turned = λ shown st.
           subst (λ (z : Command). Turned ge (turn_of t (hall ks shown) (Some (asks z))) ls bits) (sym c.in-NewKey.is)
-          (book_turned ge ks ls shown bits st _ (answered told c.new-key.result) e);
+          (book_turned ge ks ls shown bits st _ (answered told c.new_key.result) e);
       replied = λ shown st.
-          subst (λ (z : Command). IfOk c.reply-book-in-NewKey.result (λ _. after ≡ before ++ (turn_of t (hall ks shown) (Some (asks z))).reply)) (sym c.in-NewKey.is)
-          (IfOk-weaker c.reply-book-in-NewKey.result _ _ (λ _ w. w ∙ ap (λ (z : Entry _). before ++ book_line z.reply) e) c.reply-book-in-NewKey.ensures);
+          subst (λ (z : Command). IfOk c.reply_book-in-NewKey.result (λ _. after ≡ before ++ (turn_of t (hall ks shown) (Some (asks z))).reply)) (sym c.in-NewKey.is)
+          (IfOk-weaker c.reply_book-in-NewKey.result _ _ (λ _ w. w ∙ ap (λ (z : Entry _). before ++ book_line z.reply) e) c.reply_book-in-NewKey.ensures);
       room = refl;
       home = refl;
       rest = refl;
-      kept = c.new-key.ensures.kept;
-      lender = c.new-key.ensures.lender;
+      kept = c.new_key.ensures.kept;
+      lender = c.new_key.ensures.lender;
     }
 
 pub returns-in-Cast : goal.returns-in-Cast
@@ -103,21 +103,21 @@ returns-in-Cast g c =
     let bits = letters c.args.punch.now.text.now c.args.punch.now.count in
     let t = terms g.K.Key.made g.K.Key.at_least g.K.Key.arity (room_for (length c.args.book.now.list.now)) (letter_room c.args.punch.now.text.now) (length c.args.work.now) in
     let before = vec_items c.args.out.now in
-    let after = vec_items c.reply-cast.new.out in
-    let new = letters c.reply-cast.new.punch.text.now c.reply-cast.new.punch.count in
+    let after = vec_items c.reply_cast.new.out in
+    let new = letters c.reply_cast.new.punch.text.now c.reply_cast.new.punch.count in
     let few : length ks ≤ 4000 = omega (arith, length-take (min 4000 c.args.book.now.count) c.args.book.now.list.now) in
     record {
       lots = subst (λ (z : Command). ks ≡ (turn_of t (hall ks None) (Some (asks z))).after.lots) (sym c.in-Cast.is) (sym (cast_lots ks None _));
-      bits = subst (λ (z : Command). new ≡ bits_after t ks bits (Some (asks z))) (sym c.in-Cast.is) c.reply-cast.ensures.bits;
+      bits = subst (λ (z : Command). new ≡ bits_after t ks bits (Some (asks z))) (sym c.in-Cast.is) c.reply_cast.ensures.bits;
       turned = λ shown st.
           subst (λ (z : Command). Turned ge (turn_of t (hall ks shown) (Some (asks z))) ks new) (sym c.in-Cast.is)
-          (cast_turned ge ks ks shown bits st t.room t.work few refl new c.reply-cast.ensures.bits);
+          (cast_turned ge ks ks shown bits st t.room t.work few refl new c.reply_cast.ensures.bits);
       replied = λ shown st.
-          subst (λ (z : Command). IfOk c.reply-cast.result (λ _. after ≡ before ++ (turn_of t (hall ks shown) (Some (asks z))).reply)) (sym c.in-Cast.is)
-          (cast_replied ge ks ks shown bits st t.room t.work c.reply-cast.result before after c.reply-cast.ensures.reply);
-      room = c.reply-cast.ensures.room;
-      home = c.reply-cast.ensures.home;
-      rest = c.reply-cast.ensures.rest;
+          subst (λ (z : Command). IfOk c.reply_cast.result (λ _. after ≡ before ++ (turn_of t (hall ks shown) (Some (asks z))).reply)) (sym c.in-Cast.is)
+          (cast_replied ge ks ks shown bits st t.room t.work c.reply_cast.result before after c.reply_cast.ensures.reply);
+      room = c.reply_cast.ensures.room;
+      home = c.reply_cast.ensures.home;
+      rest = c.reply_cast.ensures.rest;
       kept = refl;
       lender = refl;
     }
@@ -130,7 +130,7 @@ returns-in-Page g c =
     let bits = letters c.args.punch.now.text.now c.args.punch.now.count in
     let t = terms g.K.Key.made g.K.Key.at_least g.K.Key.arity (room_for (length c.args.book.now.list.now)) (letter_room c.args.punch.now.text.now) (length c.args.work.now) in
     let before = vec_items c.args.out.now in
-    let after = vec_items c.reply-page.new.out in
+    let after = vec_items c.reply_page.new.out in
     let strict = keys_order_lots ge g.met.K.Key.total g.met.K.Key.transitive in
     record {
       lots = subst (λ (z : Command). ks ≡ (turn_of t (hall ks None) (Some (asks z))).after.lots) (sym c.in-Page.is) refl;
@@ -139,8 +139,8 @@ returns-in-Page g c =
           subst (λ (z : Command). Turned ge (turn_of t (hall ks shown) (Some (asks z))) ks bits) (sym c.in-Page.is)
           (record { lots_are = refl; stands = st });
       replied = λ shown st.
-          subst (λ (z : Command). IfOk c.reply-page.result (λ _. after ≡ before ++ (turn_of t (hall ks shown) (Some (asks z))).reply)) (sym c.in-Page.is)
-          (page_said ge strict shown (lettered c.tape.result.text.now) (subst (λ (z : List Bool). Stands ge shown z) (sym c.tape.ensures) st) c.in-Page.start c.in-Page.size (λ l. IfOk c.reply-page.result (λ _. after ≡ before ++ l)) c.reply-page.ensures);
+          subst (λ (z : Command). IfOk c.reply_page.result (λ _. after ≡ before ++ (turn_of t (hall ks shown) (Some (asks z))).reply)) (sym c.in-Page.is)
+          (page_said ge strict shown (lettered c.tape.result.text.now) (subst (λ (z : List Bool). Stands ge shown z) (sym c.tape.ensures) st) c.in-Page.start c.in-Page.size (λ l. IfOk c.reply_page.result (λ _. after ≡ before ++ l)) c.reply_page.ensures);
       room = refl;
       home = refl;
       rest = refl;

@@ -14,7 +14,7 @@ returns-in-Ok g c =
     let h = c.in-Ok.ensures in
     record {
       bits = ap (λ (z : Casting). z.bits) h.bits;
-      reply = IfOk-weaker c.reply-sheet.result _ _ (λ _ w. w ∙ ap (λ z. before ++ sheet_line z) c.tape.ensures ∙ ap (λ (z : Casting). before ++ cast_line z) h.bits) c.reply-sheet.ensures;
+      reply = IfOk-weaker c.reply_sheet.result _ _ (λ _ w. w ∙ ap (λ z. before ++ sheet_line z) c.tape.ensures ∙ ap (λ (z : Casting). before ++ cast_line z) h.bits) c.reply_sheet.ensures;
       room = h.room;
       home = h.home;
       rest = drop_later (4 * suc n) 16004 c.cast.new.work c.args.work.now few h.rest;
@@ -28,7 +28,7 @@ returns-in-Err g c =
     let h = c.in-Err.ensures in
     record {
       bits = ap (λ (z : Casting). z.bits) h.bits;
-      reply = IfOk-weaker c.reply-refused.result _ _ (λ _ w. w ∙ ap (λ z. before ++ refused_line z) c.number.ensures ∙ ap (λ (z : Casting). before ++ cast_line z) h.bits) c.reply-refused.ensures;
+      reply = IfOk-weaker c.reply_refused.result _ _ (λ _ w. w ∙ ap (λ z. before ++ refused_line z) c.number.ensures ∙ ap (λ (z : Casting). before ++ cast_line z) h.bits) c.reply_refused.ensures;
       room = h.room;
       home = h.home;
       rest = drop_later (4 * suc n) 16004 c.cast.new.work c.args.work.now few h.rest;

@@ -10,7 +10,7 @@ unfolding replies
 returns g c =
     let t = terms g.K.Key.made g.K.Key.at_least g.K.Key.arity (room_for (length c.args.book.now.list.now)) (letter_room c.args.punch.now.text.now) (length c.args.work.now) in
     let line = c.in-Some.ensures in
-    let said = c.in-ok-answer-line.ensures in
+    let said = c.in_ok-answer_line.ensures in
     record {
       shorter = line.shorter;
       ended = tt;

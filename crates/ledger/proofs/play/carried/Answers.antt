@@ -5,7 +5,7 @@ use Rattle.book.specs.Faults.{told as bookTold}
 use Rattle.ledger.specs.Ledger.{told}
 use Rattle.ledger.proofs.play.carried.Goals as goal
 
-pub returns-in-err-lots : goal.returns-in-err-lots
-returns-in-err-lots c =
-    let p = err_from_is_err_and c.from-residual.result c.from-residual.ensures.1 in
-    ap (answered told) (p.1 ∙ ap Err p.2) ∙ sym (ap (answered bookTold) c.in-err-lots.was)
+pub returns-in_err-lots : goal.returns-in_err-lots
+returns-in_err-lots c =
+    let p = err_from_is_err_and c.from_residual.result c.from_residual.ensures.1 in
+    ap (answered told) (p.1 ∙ ap Err p.2) ∙ sym (ap (answered bookTold) c.in_err-lots.was)

@@ -4,30 +4,30 @@ use Rattle.packed.specs.Packed.{all_bits}
 use Rattle.packed.proofs.Packing.{rank_whole, rank_part, ones_byte, ones_whole}
 use Rattle.packed.proofs.bytes.ones_before.Goals as goal
 
-pub overflow-cast-count : goal.overflow-cast-count
-overflow-cast-count c = omega (arith, ones_whole (get_or c.args.bytes.now c.loop-i.i 0) (c.type-inv.bytes c.loop-i.i).fits)
+pub overflow_cast-count : goal.overflow_cast-count
+overflow_cast-count c = omega (arith, ones_whole (get_or c.args.bytes.now c.loop-i.i 0) (c.type_inv.bytes c.loop-i.i).fits)
 
-pub overflow-add-count : goal.overflow-add-count
-overflow-add-count c = omega (arith, ones_whole (get_or c.args.bytes.now c.loop-i.i 0) (c.type-inv.bytes c.loop-i.i).fits)
+pub overflow_add-count : goal.overflow_add-count
+overflow_add-count c = omega (arith, ones_whole (get_or c.args.bytes.now c.loop-i.i 0) (c.type_inv.bytes c.loop-i.i).fits)
 
 pub loop-i-preserved : goal.loop-i-preserved
 loop-i-preserved c =
     let bytes = c.args.bytes.now in
     let i = c.loop-i.i in
     let l : i < length bytes = omega arith in (
-      omega (arith, rank_whole bytes i l (c.type-inv.bytes i).fits),
-      omega (arith, ones_whole (get_or bytes i 0) (c.type-inv.bytes i).fits),
+      omega (arith, rank_whole bytes i l (c.type_inv.bytes i).fits),
+      omega (arith, ones_whole (get_or bytes i 0) (c.type_inv.bytes i).fits),
     )
 
-pub overflow-cast-count-then-rest-gt0-2 : goal.overflow-cast-count-then-rest-gt0-2
-overflow-cast-count-then-rest-gt0-2 c =
+pub overflow_cast-count-then-rest-gt0-2 : goal.overflow_cast-count-then-rest-gt0-2
+overflow_cast-count-then-rest-gt0-2 c =
     let n = c.args.end in
-    omega (arith, ones_byte (get_or c.args.bytes.now (n / 8) 0) (8 - n % 8) (c.type-inv.bytes (n / 8)).fits)
+    omega (arith, ones_byte (get_or c.args.bytes.now (n / 8) 0) (8 - n % 8) (c.type_inv.bytes (n / 8)).fits)
 
-pub overflow-add-count-then-rest-gt0 : goal.overflow-add-count-then-rest-gt0
-overflow-add-count-then-rest-gt0 c =
+pub overflow_add-count-then-rest-gt0 : goal.overflow_add-count-then-rest-gt0
+overflow_add-count-then-rest-gt0 c =
     let n = c.args.end in
-    omega (arith, ones_byte (get_or c.args.bytes.now (n / 8) 0) (8 - n % 8) (c.type-inv.bytes (n / 8)).fits)
+    omega (arith, ones_byte (get_or c.args.bytes.now (n / 8) 0) (8 - n % 8) (c.type_inv.bytes (n / 8)).fits)
 
 pub returns-then-rest-gt0 : goal.returns-then-rest-gt0
 returns-then-rest-gt0 c =
@@ -36,4 +36,4 @@ returns-then-rest-gt0 c =
     let l : n / 8 < length bytes = omega arith in
     let e : c.loop-i.i ≡ n / 8 = omega arith in
     let f : c.loop-i.count ≡ rank_of (all_bits bytes) (8 * (n / 8)) = c.loop-i.invariant.0 ∙ ap (λ k. rank_of (all_bits bytes) (8 * k)) e in
-    omega (arith, f, rank_part bytes n l (c.type-inv.bytes (n / 8)).fits)
+    omega (arith, f, rank_part bytes n l (c.type_inv.bytes (n / 8)).fits)

@@ -9,7 +9,7 @@ loop-byte-preserved c =
     let bytes = c.args.bytes.now in
     let i = c.loop-byte.byte-index in
     let b = get_or bytes i 0 in
-    c.in-ok-push-hex.ensures
+    c.in_ok-push_hex.ensures
     ∙ ap (λ t. t ++ hex_byte b) c.loop-byte.invariant
     ∙ flat_map_more hex_byte [] (take i bytes) b
     ∙ ap (flat_map hex_byte) (sym (take_more bytes i 0 c.loop-byte-test.true))

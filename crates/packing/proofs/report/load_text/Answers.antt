@@ -14,10 +14,10 @@ same_lines b b' o o' u u' d d' s s' f g h i j =
     ap (λ x. text_of_sizes x o u d s) f ∙ ap (λ x. text_of_sizes b' x u d s) g ∙ ap (λ x. text_of_sizes b' o' x d s) h ∙ ap (λ x. text_of_sizes b' o' u' x s) i ∙ ap (λ x. text_of_sizes b' o' u' d' x) j
 
 pub unreachable-requires : goal.unreachable-requires
-unreachable-requires c = omega (arith, c.in-default.ensures.0, length_lettered c.args.letters.now)
+unreachable-requires c = omega (arith, c.in_default.ensures.0, length_lettered c.args.letters.now)
 
-pub slice-bounds-hex-end : goal.slice-bounds-hex-end
-slice-bounds-hex-end c = omega (arith, c.measure-sizes.ensures.bytes, length_packed c.pack.new.bytes c.in-Ok.count, c.pack.auto.bytes)
+pub slice_bounds-hex-end : goal.slice_bounds-hex-end
+slice_bounds-hex-end c = omega (arith, c.measure-sizes.ensures.bytes, length_packed c.pack.new.bytes c.in-Ok.count, c.pack.auto.bytes)
 
 pub returns : goal.returns
 returns c =
@@ -25,11 +25,11 @@ returns c =
     let n = c.in-Ok.count in
     let bytes = c.pack.new.bytes in
     let into : PackedInto bs n (replicate 4096 0) bytes = c.in-Ok.ensures in
-    let same : c.same-bits.result ≡ true = c.same-bits.ensures.1 into.tape in
+    let same : c.same_bits.result ≡ true = c.same_bits.ensures.1 into.tape in
     let bits : c.measure-sizes.result.bits ≡ length bs = c.measure-sizes.ensures.bits ∙ ap length into.tape in
     let tally : c.measure-sizes.result.ones ≡ ones bs = c.measure-sizes.ensures.ones ∙ ap ones into.tape in
     let used : c.measure-sizes.result.bytes ≡ bytes_for (length bs) = c.measure-sizes.ensures.bytes ∙ ap (λ (x : List _). bytes_for (length x)) into.tape in
-    let digits : c.as-str.result.now ≡ flat_map hex_byte (take (bytes_for (length bs)) bytes) = c.as-str.ensures.value ∙ c.in-ok-digits.ensures ∙ ap (λ k. flat_map hex_byte (take k bytes)) (let z : c.measure-sizes.result.bytes - 0 ≡ bytes_for (length bs) = omega (arith, used) in z) in
-    IfOk-weaker c.sizes-text.result _ _
+    let digits : c.as_str.result.now ≡ flat_map hex_byte (take (bytes_for (length bs)) bytes) = c.as_str.ensures.value ∙ c.in_ok-digits.ensures ∙ ap (λ k. flat_map hex_byte (take k bytes)) (let z : c.measure-sizes.result.bytes - 0 ≡ bytes_for (length bs) = omega (arith, used) in z) in
+    IfOk-weaker c.sizes_text.result _ _
     (λ t e. (bytes, (subst (λ (k : ℕ). PackedInto bs k (replicate 4096 0) bytes) into.count into, e ∙ same_lines _ (length bs) _ (ones bs) _ (bytes_for (length bs)) _ (flat_map hex_byte (take (bytes_for (length bs)) bytes)) _ true bits tally used digits same)))
-    c.sizes-text.ensures
+    c.sizes_text.ensures

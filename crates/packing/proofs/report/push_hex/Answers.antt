@@ -17,16 +17,16 @@ pub returns : goal.returns
 returns c =
     let b = c.args.byte in
     let s = string_bytes c.args.out.now in
-    let d₁ = c.hex-digit.ensures in
-    let d₂ = c.hex-digit-2.ensures in
+    let d₁ = c.hex_digit.ensures in
+    let d₂ = c.hex_digit-2.ensures in
     let fits : b < 256 = c.ranges.byte.fits in
-    let l₁ : c.hex-digit.result < 128 = omega (arith, d₁, digit_small (b / 16) (omega arith)) in
-    let l₂ : c.hex-digit-2.result < 128 = omega (arith, d₂, digit_small (b % 16) (omega arith)) in
-    let e₁ = c.in-ok-push.ensures.ascii (omega arith) in
-    let e₂ = c.in-ok-push-2.ensures.ascii l₁ ∙ ap (λ x. x ∷ []) d₁ in
+    let l₁ : c.hex_digit.result < 128 = omega (arith, d₁, digit_small (b / 16) (omega arith)) in
+    let l₂ : c.hex_digit-2.result < 128 = omega (arith, d₂, digit_small (b % 16) (omega arith)) in
+    let e₁ = c.in_ok-push.ensures.ascii (omega arith) in
+    let e₂ = c.in_ok-push-2.ensures.ascii l₁ ∙ ap (λ x. x ∷ []) d₁ in
     let e₃ = c.push-3.ensures.ascii l₂ ∙ ap (λ x. x ∷ []) d₂ in
     three c.push-3.result s (string_bytes c.push.new.self) (string_bytes c.push-2.new.self) (string_bytes c.push-3.new.self) _ 32 (hex_letter (b / 16)) (hex_letter (b % 16))
-    (c.in-ok-push.ensures.bytes ∙ ap (λ x. s ++ x) e₁)
-    (c.in-ok-push-2.ensures.bytes ∙ ap (λ x. string_bytes c.push.new.self ++ x) e₂)
+    (c.in_ok-push.ensures.bytes ∙ ap (λ x. s ++ x) e₁)
+    (c.in_ok-push-2.ensures.bytes ∙ ap (λ x. string_bytes c.push.new.self ++ x) e₂)
     c.push-3.ensures.bytes
     e₃

@@ -10,4 +10,4 @@ unfolding guess_digits
 returns c =
     let lit = c.args.lit.now in
     let all = take_all 4 (drop 4 lit) (omega (arith, length-drop 4 lit)) in
-    record { read = cc; proper = ap proper c.from-numbers.ensures ∙ from_proper c.read-best.result c.read-second.result }
+    record { read = cc; proper = ap proper c.from_numbers.ensures ∙ from_proper c.read-best.result c.read-second.result }

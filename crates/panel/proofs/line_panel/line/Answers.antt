@@ -13,13 +13,13 @@ bounds-text-comma c =
     let short = lots_short c.args.shown c.requires c.numbers-best.ensures.best c.numbers-best.ensures.second in
     omega arith
 
-pub overflow-add-end : goal.overflow-add-end
-overflow-add-end c =
+pub overflow_add-end : goal.overflow_add-end
+overflow_add-end c =
     let short = lots_short c.args.shown c.requires c.numbers-best.ensures.best c.numbers-best.ensures.second in
     search rules
 
-pub overflow-add-end-then-best-gt0 : goal.overflow-add-end-then-best-gt0
-overflow-add-end-then-best-gt0 c =
+pub overflow_add-end-then-best-gt0 : goal.overflow_add-end-then-best-gt0
+overflow_add-end-then-best-gt0 c =
     let short = lots_short c.args.shown c.requires c.numbers-best.ensures.best c.numbers-best.ensures.second in
     search rules
 

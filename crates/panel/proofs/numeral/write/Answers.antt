@@ -3,8 +3,8 @@ use Rattle.std.proofs.lemmas.Int.Digits.{length-digits_of_step}
 use Rattle.panel.proofs.Writing.{inked_more, inked_none}
 use Rattle.panel.proofs.numeral.write.Goals as goal
 
-pub overflow-sub-at : goal.overflow-sub-at
-overflow-sub-at c =
+pub overflow_sub-at : goal.overflow_sub-at
+overflow_sub-at c =
     let one = length-digits_of_step 10 c.loop-left.left (omega arith) (omega arith) in omega arith
 
 pub bounds-cells-at : goal.bounds-cells-at

@@ -4,33 +4,33 @@ use Rattle.leaders.proofs.Verdicts.{verdict_none, verdict_many, verdict_some, fi
 use Rattle.reading.proofs.Checks.{closes_bound}
 use Rattle.reading.proofs.check.check.Goals as goal
 
-pub returns-in-default : goal.returns-in-default
-returns-in-default g c = sym (verdict_none (g.T.Tape.bits c.args.tape.now) (sym c.balance.ensures ∙ c.in-default.is))
+pub returns-in_default : goal.returns-in_default
+returns-in_default g c = sym (verdict_none (g.T.Tape.bits c.args.tape.now) (sym c.balance.ensures ∙ c.in_default.is))
 
 pub returns-then-m-gt8002 : goal.returns-then-m-gt8002
 returns-then-m-gt8002 g c = sym (verdict_many (g.T.Tape.bits c.args.tape.now) _ (sym c.balance.ensures ∙ c.in-Some.is) c.if-m-gt8002.true)
 
-pub walk-over-end-requires : goal.walk-over-end-requires
-walk-over-end-requires g c = (omega arith, (closes_bound (g.T.Tape.bits c.args.tape.now) _ (sym c.balance.ensures ∙ c.in-Some.is)).1)
+pub walk_over-end-requires : goal.walk_over-end-requires
+walk_over-end-requires g c = (omega arith, (closes_bound (g.T.Tape.bits c.args.tape.now) _ (sym c.balance.ensures ∙ c.in-Some.is)).1)
 
 pub returns-then-end-len : goal.returns-then-end-len
 returns-then-end-len g c =
     let bs = g.T.Tape.bits c.args.tape.now in
     sym (verdict_some bs c.in-Some.m (sym c.balance.ensures ∙ c.in-Some.is) c.if-m-gt8002.false
-    ∙ ap (finish bs c.in-Some.m) (sym c.walk-over-end.ensures)
-    ∙ finish_length bs c.in-Some.m (walked c.walk-over-end.result.at c.walk-over-end.result.bad) (λ h. c.if-end-len.true (h ∙ sym c.len.ensures.is)))
+    ∙ ap (finish bs c.in-Some.m) (sym c.walk_over-end.ensures)
+    ∙ finish_length bs c.in-Some.m (walked c.walk_over-end.result.at c.walk_over-end.result.bad) (λ h. c.if-end-len.true (h ∙ sym c.len.ensures.is)))
 
 pub returns-then-end-ne0 : goal.returns-then-end-ne0
 returns-then-end-ne0 g c =
     let bs = g.T.Tape.bits c.args.tape.now in
     sym (verdict_some bs c.in-Some.m (sym c.balance.ensures ∙ c.in-Some.is) c.if-m-gt8002.false
-    ∙ ap (finish bs c.in-Some.m) (sym c.walk-over-end.ensures)
-    ∙ finish_bad bs c.in-Some.m (walked c.walk-over-end.result.at c.walk-over-end.result.bad) (c.if-end-len.false ∙ c.len.ensures.is) c.if-end-ne0.true)
+    ∙ ap (finish bs c.in-Some.m) (sym c.walk_over-end.ensures)
+    ∙ finish_bad bs c.in-Some.m (walked c.walk_over-end.result.at c.walk_over-end.result.bad) (c.if-end-len.false ∙ c.len.ensures.is) c.if-end-ne0.true)
 
 pub returns : goal.returns
 returns g c =
     let bs = g.T.Tape.bits c.args.tape.now in
-    ap Ok c.saturating-sub.ensures ∙
+    ap Ok c.saturating_sub.ensures ∙
     sym (verdict_some bs c.in-Some.m (sym c.balance.ensures ∙ c.in-Some.is) c.if-m-gt8002.false
-    ∙ ap (finish bs c.in-Some.m) (sym c.walk-over-end.ensures)
-    ∙ finish_ok bs c.in-Some.m (walked c.walk-over-end.result.at c.walk-over-end.result.bad) (c.if-end-len.false ∙ c.len.ensures.is) c.if-end-ne0.false)
+    ∙ ap (finish bs c.in-Some.m) (sym c.walk_over-end.ensures)
+    ∙ finish_ok bs c.in-Some.m (walked c.walk_over-end.result.at c.walk_over-end.result.bad) (c.if-end-len.false ∙ c.len.ensures.is) c.if-end-ne0.false)

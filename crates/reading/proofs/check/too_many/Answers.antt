@@ -3,8 +3,8 @@ use Rattle.std.proofs.lemmas.Bool.{lt-ltb}
 use Rattle.reading.proofs.Checks.{too_many_left, too_many_right, word_counts}
 use Rattle.reading.proofs.check.too_many.Goals as goal
 
-pub overflow-sub-n : goal.overflow-sub-n
-overflow-sub-n g c = (word_counts (take c.args.size (drop c.args.from (g.T.Tape.bits c.args.tape.now))) c.len-n.result c.rank-ones.result c.len-n.ensures.is c.rank-ones.ensures).2
+pub overflow_sub-n : goal.overflow_sub-n
+overflow_sub-n g c = (word_counts (take c.args.size (drop c.args.from (g.T.Tape.bits c.args.tape.now))) c.len-n.result c.rank-ones.result c.len-n.ensures.is c.rank-ones.ensures).2
 
 pub returns-then-n-ones : goal.returns-then-n-ones
 returns-then-n-ones g c =

@@ -14,8 +14,8 @@ loop-p-preserved g c =
     let v : unwrap_or (slice_get bs (p - 1)) true ≡ true = cc in
     number_more bs c.args.end p (omega arith) (omega arith) c.requires v c.loop-p.invariant
 
-pub returns-then-not-unwrap-or : goal.returns-then-not-unwrap-or
-returns-then-not-unwrap-or g c =
+pub returns-then-not-unwrap_or : goal.returns-then-not-unwrap_or
+returns-then-not-unwrap_or g c =
     let bs = g.T.Tape.bits c.args.tape.now in
     let p = c.loop-p.p in
     let s : p ≡ p - 1 + 1 = omega arith in

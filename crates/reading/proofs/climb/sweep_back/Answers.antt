@@ -8,7 +8,7 @@ use Rattle.reading.proofs.climb.sweep_back.Goals as goal
 
 pub loop-lot-init : goal.loop-lot-init
 loop-lot-init g c =
-    let start = c.start-at.ensures in
+    let start = c.start_at.ensures in
     let lot = ap (λ z. z.lot) start in
     let above = ap (λ z. z.above) start in
     let steps = ap (λ z. z.steps) start in (
@@ -25,7 +25,7 @@ loop-lot-preserved g c =
     let bs = g.T.Tape.bits c.args.tape.now in
     let s = c.loop-lot.s in
     let p = c.loop-lot.at in
-    let r = c.number-back-at.result in
+    let r = c.number_back-at.result in
     let m = c.loop-lot.lot - 1 in
     let j = c.args.high.lot in
     let t = c.widen-s.result in
@@ -33,15 +33,15 @@ loop-lot-preserved g c =
     let up : c.loop-lot.lot ≡ suc m = omega arith in
     let begins-up : Begins bs (suc m) p = subst (λ z. Begins bs z p) up begins in
     let swept-up : Swept bs (suc m) j s = subst (λ z. Swept bs z j s) up swept in
-    let short : r ≤ p - 1 = c.number-back-at.ensures.short in
+    let short : r ≤ p - 1 = c.number_back-at.ensures.short in
     let some : 1 ≤ m = omega (arith, c.requires.range) in
     let at-short : r ≤ c.args.high.at = omega arith in (
       omega arith,
       c.widen-s.ensures.small,
       at-short,
       here-short s r (p - 1 - r) t c.args.high.at c.widen-s.ensures.rest at-short here-low,
-      begins_back bs m p r begins-up some short c.number-back-at.ensures.is,
-      swept_back bs m j p r s t begins-up some (omega (arith, c.loop-lot.auto)) short c.number-back-at.ensures.is (swept.lot ∙ up) swept-up c.widen-s.ensures.all c.widen-s.ensures.rest,
+      begins_back bs m p r begins-up some short c.number_back-at.ensures.is,
+      swept_back bs m j p r s t begins-up some (omega (arith, c.loop-lot.auto)) short c.number_back-at.ensures.is (swept.lot ∙ up) swept-up c.widen-s.ensures.all c.widen-s.ensures.rest,
     )
   where
     here-short : (s : Sweep) (r d : ℕ) (t : Sweep) (most : ℕ) → Widened s r d t → r ≤ most → s.here ≤ most → t.here ≤ most

@@ -20,11 +20,11 @@ lot_some : (n : ℕ) → 1 ≤ n → lot_of_number n ≡ Some n
 lot_some zero h = absurd (omega arith)
 lot_some (suc n) h = refl
 
-pub returns-in-default : goal.returns-in-default
-returns-in-default g c b s e p q r =
+pub returns-in_default : goal.returns-in_default
+returns-in_default g c b s e p q r =
     let t = coded b s (g.T.Tape.bits c.args.tape.now) c.args.lots e in
     let many = zeros_encode t.t in
-    absurd (elim c.in-default.ensures [ inl z ↦ omega arith | inr z ↦ omega (arith, z, many, t.sized, ap (λ bs. ones (map not bs)) t.is) ])
+    absurd (elim c.in_default.ensures [ inl z ↦ omega arith | inr z ↦ omega (arith, z, many, t.sized, ap (λ bs. ones (map not bs)) t.is) ])
 
 -- the number of lot j begins after the zero that is found
 begins : (g : _) (c : After-min g) → Begins (g.T.Tape.bits c.args.tape.now) c.args.j c.min.result
@@ -32,11 +32,11 @@ begins g c =
     let bs = g.T.Tape.bits c.args.tape.now in
     let found = c.in-Some.ensures in
     let inside = nth_within (map not bs) c.in-Some.p true found.0 in
-    let place : c.in-Some.p + 1 ≡ c.min.result = omega (arith, inside, length-map bs not, c.len-n.ensures.is, c.len-n.ensures.short, c.saturating-add.ensures, c.min.ensures) in
+    let place : c.in-Some.p + 1 ≡ c.min.result = omega (arith, inside, length-map bs not, c.len-n.ensures.is, c.len-n.ensures.short, c.saturating_add.ensures, c.min.ensures) in
     subst (Begins bs c.args.j) place (begins_select bs c.args.j c.in-Some.p found.0 found.1)
 
-pub sweep-back-s-requires : goal.sweep-back-s-requires
-sweep-back-s-requires g c = record { begins = begins g c; range = (omega (arith, c.if-i-eq0.false), omega (arith, c.if-j-i.false)) }
+pub sweep_back-s-requires : goal.sweep_back-s-requires
+sweep_back-s-requires g c = record { begins = begins g c; range = (omega (arith, c.if-i-eq0.false), omega (arith, c.if-j-i.false)) }
 
 pub returns : goal.returns
 returns g c b s e p q r =
@@ -44,18 +44,18 @@ returns g c b s e p q r =
     let n = c.args.lots in
     let i = c.args.i in
     let j = c.args.j in
-    let swept = c.sweep-back-s.ensures.is in
-    let first = c.sweep-back-s.result.all.best in
+    let swept = c.sweep_back-s.ensures.is in
+    let first = c.sweep_back-s.result.all.best in
     let k : first ≡ (reach bs i j).best = ap (λ z. z.best) swept.all in
     let h : Best b i j first = subst (Best b i j) (sym k) (best_read b s bs n e i j p q r) in
-    let x : c.runner-up.result ≡ runner_up_of bs n i j first = c.runner-up.ensures in
-    let y : c.runner-up.result ≡ runner_up_of bs n i j (reach bs i j).best = x ∙ ap (runner_up_of bs n i j) k in
+    let x : c.runner_up.result ≡ runner_up_of bs n i j first = c.runner_up.ensures in
+    let y : c.runner_up.result ≡ runner_up_of bs n i j (reach bs i j).best = x ∙ ap (runner_up_of bs n i j) k in
     let is = best_one b s i j first (best b i j) h (best_is b s i j q) in (
       is,
-      c.lot-of-second.ensures ∙ elim (cases_lt i j) [
+      c.lot_of-second.ensures ∙ elim (cases_lt i j) [
         | inl l ↦
-            let next : Second b i j (reach bs i j).best c.runner-up.result = subst (Second b i j (reach bs i j).best) (sym y) (second_read b s bs n e i j p l r) in
-            lot_some c.runner-up.result (omega (arith, next.from)) ∙ sym (second_some b s i j c.runner-up.result q (subst (λ z. Second b i j z c.runner-up.result) (sym k ∙ is) next))
+            let next : Second b i j (reach bs i j).best c.runner_up.result = subst (Second b i j (reach bs i j).best) (sym y) (second_read b s bs n e i j p l r) in
+            lot_some c.runner_up.result (omega (arith, next.from)) ∙ sym (second_some b s i j c.runner_up.result q (subst (λ z. Second b i j z c.runner_up.result) (sym k ∙ is) next))
         | inr l ↦
             ap lot_of_number (x ∙ runner_none bs n i j first (omega (arith, h.from, h.upto)) (omega (arith, h.from, h.upto))) ∙ sym (second_none b s i j (omega arith))
       ],

@@ -4,7 +4,7 @@ use Rattle.reading.specs.Reading.{reach, runner_up_of, On}
 use Rattle.reading.proofs.Marks.{chosen}
 use Rattle.reading.proofs.Numbers.{begins_after, near_best, front_is}
 use Rattle.reading.proofs.pair.runner_up.Goals as goal
-use Rattle.reading.proofs.pair.runner_up.Goals.{After-go-back-near, After-left-first}
+use Rattle.reading.proofs.pair.runner_up.Goals.{After-go_back-near, After-left_first}
 
 pub returns-then-low-k : goal.returns-then-low-k
 unfolding runner_up_of
@@ -18,36 +18,36 @@ returns-then-low-k g c =
           rw (eq-eqb c.args.low c.args.s.all.best same, eq-eqb c.args.s.all.best c.args.high end) (w.none end)
     ]
 
-best : (g : _) (c : After-go-back-near g) → c.go-back-near.result.left.best ≡ (reach (g.T.Tape.bits c.args.tape.now) c.args.low (c.args.s.all.best - 1)).best
-best g c = near_best (g.T.Tape.bits c.args.tape.now) (c.args.s.all.best - 1) c.args.low _ c.go-back-near.result c.start-at-2.ensures c.go-back-near.ensures.is
+best : (g : _) (c : After-go_back-near g) → c.go_back-near.result.left.best ≡ (reach (g.T.Tape.bits c.args.tape.now) c.args.low (c.args.s.all.best - 1)).best
+best g c = near_best (g.T.Tape.bits c.args.tape.now) (c.args.s.all.best - 1) c.args.low _ c.go_back-near.result c.start_at-2.ensures c.go_back-near.ensures.is
 
 pub returns-then-k-high : goal.returns-then-k-high
 unfolding runner_up_of
 returns-then-k-high g c =
     let w = c.requires.swept in
-    rw (ne_eqb c.args.low c.args.s.all.best (omega (arith, c.if-low-k.false)), eq-eqb c.args.s.all.best c.args.high (omega (arith, w.upto, c.if-k-high.true))) (best g (goal.at.returns-then-k-high g c).After-go-back-near)
+    rw (ne_eqb c.args.low c.args.s.all.best (omega (arith, c.if-low-k.false)), eq-eqb c.args.s.all.best c.args.high (omega (arith, w.upto, c.if-k-high.true))) (best g (goal.at.returns-then-k-high g c).After-go_back-near)
 
 -- what is found on both sides of the best lot, and which side the spine says is first
-found : (g : _) (c : After-left-first g) → cond c.left-first.result c.go-back-near.result.left.best c.args.s.right ≡ runner_up_of (g.T.Tape.bits c.args.tape.now) c.args.lots c.args.low c.args.high c.args.s.all.best
+found : (g : _) (c : After-left_first g) → cond c.left_first.result c.go_back-near.result.left.best c.args.s.right ≡ runner_up_of (g.T.Tape.bits c.args.tape.now) c.args.lots c.args.low c.args.high c.args.s.all.best
 found g c =
     let bs = g.T.Tape.bits c.args.tape.now in
     let w = c.requires.swept in
     let s = c.args.s in
     let m = s.all.best in
-    let near = c.go-back-near.result in
+    let near = c.go_back-near.result in
     let h : c.args.low < m = omega (arith, c.if-low-k.false) in
     let k : m < c.args.high = omega (arith, c.if-k-high.false) in
-    let before = c.go-back-before.ensures.is in
-    let own = c.go-home-far.ensures.own m s.all.steps (omega (arith, w.lot, w.from)) (subst (λ z. On bs m z s.all.steps s.all) (sym w.lot) w.rooted.on) in
-    let front = front_is bs m c.args.low s.all.steps _ c.go-back-before.result _ near c.go-home-far.result h c.requires.low w.here refl refl before
-    refl c.start-at-2.ensures refl refl c.go-back-near.ensures.is c.go-home-far.ensures.way own in
-    let a = near_best bs (m - 1) c.args.low _ near c.start-at-2.ensures c.go-back-near.ensures.is in
+    let before = c.go_back-before.ensures.is in
+    let own = c.go_home-far.ensures.own m s.all.steps (omega (arith, w.lot, w.from)) (subst (λ z. On bs m z s.all.steps s.all) (sym w.lot) w.rooted.on) in
+    let front = front_is bs m c.args.low s.all.steps _ c.go_back-before.result _ near c.go_home-far.result h c.requires.low w.here refl refl before
+    refl c.start_at-2.ensures refl refl c.go_back-near.ensures.is c.go_home-far.ensures.way own in
+    let a = near_best bs (m - 1) c.args.low _ near c.start_at-2.ensures c.go_back-near.ensures.is in
     let above = (reach bs (m + 1) c.args.high).above in
-    let first = c.left-first.ensures near.left.best above front (begins_after bs m s.here w.here) (w.later k) in
-    chosen bs c.args.lots c.args.low c.args.high m near.left.best above s.right c.left-first.result h k a refl (w.right k) first
+    let first = c.left_first.ensures near.left.best above front (begins_after bs m s.here w.here) (w.later k) in
+    chosen bs c.args.lots c.args.low c.args.high m near.left.best above s.right c.left_first.result h k a refl (w.right k) first
 
-pub returns-then-left-first : goal.returns-then-left-first
-returns-then-left-first g c = ap (λ t. cond t c.go-back-near.result.left.best c.args.s.right) (sym c.if-left-first.true) ∙ found g (goal.at.returns-then-left-first g c).After-left-first
+pub returns-then-left_first : goal.returns-then-left_first
+returns-then-left_first g c = ap (λ t. cond t c.go_back-near.result.left.best c.args.s.right) (sym c.if-left_first.true) ∙ found g (goal.at.returns-then-left_first g c).After-left_first
 
-pub returns-else-left-first : goal.returns-else-left-first
-returns-else-left-first g c = ap (λ t. cond t c.go-back-near.result.left.best c.args.s.right) (sym c.if-left-first.false) ∙ found g (goal.at.returns-else-left-first g c).After-left-first
+pub returns-else-left_first : goal.returns-else-left_first
+returns-else-left_first g c = ap (λ t. cond t c.go_back-near.result.left.best c.args.s.right) (sym c.if-left_first.false) ∙ found g (goal.at.returns-else-left_first g c).After-left_first

@@ -11,12 +11,12 @@ loop-lot-preserved g c =
     let (few, low, at_low, before) = c.loop-lot.invariant in
     let up : c.loop-lot.lot ≡ suc m = omega arith in
     let goes : Goes bs c.args.from (suc m) s = subst (λ z. Goes bs c.args.from z s) up before in
-    let short = c.number-back-at.ensures.short in
-    let step = c.step-back-w.ensures in (
+    let short = c.number_back-at.ensures.short in
+    let step = c.step_back-w.ensures in (
       step.few,
       omega arith,
       omega (arith, short, step.is.place),
-      goes_back bs c.args.from s c.step-back-w.result m c.number-back-at.result goes (omega (arith, c.requires.range)) (omega (arith, c.loop-lot.auto)) at_low short c.number-back-at.ensures.is step.is step.lot,
+      goes_back bs c.args.from s c.step_back-w.result m c.number_back-at.result goes (omega (arith, c.requires.range)) (omega (arith, c.loop-lot.auto)) at_low short c.number_back-at.ensures.is step.is step.lot,
     )
 
 pub returns : goal.returns

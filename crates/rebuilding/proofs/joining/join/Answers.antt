@@ -20,6 +20,6 @@ returns g c =
       nexts = c.close.ensures.nexts;
       last = c.close.ensures.last;
       joined = λ rest all few r.
-          let start = moved bits (get_or c.args.starts.now (x - 1) 0) c.word-end-upto.result (end_of_word bits c.args.starts.now c.args.n x) (λ w. Ready next left right x (w ++ rest) all end_l endR) c.word-end-upto.ensures.is r in
+          let start = moved bits (get_or c.args.starts.now (x - 1) 0) c.word_end-upto.result (end_of_word bits c.args.starts.now c.args.n x) (λ w. Ready next left right x (w ++ rest) all end_l endR) c.word_end-upto.ensures.is r in
           c.close.ensures.closes next left right x all (c.finish-seam.ensures.finishes next x rest all end_l endR few (c.splice-spliced.ensures.spliced rest all end_l endR start));
     }

@@ -24,7 +24,7 @@ loop-p-preserved g c =
     let bits = g.T.Tape.bits c.args.tape.now in
     let p = c.loop-p.p in
     let upto = c.args.upto in
-    let bit = c.unwrap-or-bit.result in
+    let bit = c.unwrap_or-bit.result in
     let e : bit ≡ set_at bits p = cc in
     let w = drop_bit bits p upto bit c.loop-p-test.true c.requires.word e in (
       c.hang-s.ensures.nexts,

@@ -10,48 +10,48 @@ use Rattle.sale.proofs.Roomy.{rooms_are}
 use Rattle.sale.proofs.Whole.{Kept, promise}
 use Rattle.sale.proofs.rehearsal.rehearse.Goals as goal
 
-pub play-into-first-requires : goal.play-into-first-requires
-play-into-first-requires g c =
-    let room = (rooms_are c.args.lists (length c.args.calls.now) (length c.args.other-calls.now) (length c.args.board-calls.now) c.if-not-have-room.ensures).for_first in
+pub play_into-first-requires : goal.play_into-first-requires
+play_into-first-requires g c =
+    let room = (rooms_are c.args.lists (length c.args.calls.now) (length c.args.other_calls.now) (length c.args.board_calls.now) c.if-not-have_room.ensures).for_first in
     record { empty = room.0; room = room.1 }
 
-pub play-into-second-requires : goal.play-into-second-requires
-play-into-second-requires g c =
-    let room = (rooms_are c.args.lists (length c.args.calls.now) (length c.args.other-calls.now) (length c.args.board-calls.now) c.if-not-have-room.ensures).for_second in
+pub play_into-second-requires : goal.play_into-second-requires
+play_into-second-requires g c =
+    let room = (rooms_are c.args.lists (length c.args.calls.now) (length c.args.other_calls.now) (length c.args.board_calls.now) c.if-not-have_room.ensures).for_second in
     record { empty = room.0; room = room.1 }
 
-pub play-into-board-requires : goal.play-into-board-requires
-play-into-board-requires g c =
-    let room = (rooms_are c.args.lists (length c.args.calls.now) (length c.args.other-calls.now) (length c.args.board-calls.now) c.if-not-have-room.ensures).for_board in
+pub play_into-board-requires : goal.play_into-board-requires
+play_into-board-requires g c =
+    let room = (rooms_are c.args.lists (length c.args.calls.now) (length c.args.other_calls.now) (length c.args.board_calls.now) c.if-not-have_room.ensures).for_board in
     record { empty = room.0; room = room.1 }
 
 pub returns : goal.returns
 returns g c =
     let bits = g.T.Tape.bits c.args.tape in
     let ps = c.args.punches.now in
-    let qs = c.args.other-punches.now in
+    let qs = c.args.other_punches.now in
     let work = length c.args.work.now in
-    let first = played g.K.Key.made g.K.Key.at_least g.P.Punch.room g.P.Punch.written work c.args.list.now ps c.args.calls.now (vec_items c.play-into-first.result) c.play-into-first.new.list c.play-into-first.new.punches in
-    let second = λ (w : ℕ). played g.L.Key.made g.L.Key.at_least g.Q.Punch.room g.Q.Punch.written w c.args.other-list.now qs c.args.other-calls.now (vec_items c.play-into-second.result) c.play-into-second.new.list c.play-into-second.new.punches in
-    let s = seated g.D.Panel.shows c.args.panels.now c.args.board-calls.now (vec_items c.play-into-board.result) c.play-into-board.new.panels in
-    let held : (b : ℕ → ℕ → Bool) → Knows b (lots_by (verdict bits)) bits → Sat b (verdict bits) s = λ b k. sat (verdict bits) b s (c.play-into-board.ensures b k).0 (c.play-into-board.ensures b k).1 in
+    let first = played g.K.Key.made g.K.Key.at_least g.P.Punch.room g.P.Punch.written work c.args.list.now ps c.args.calls.now (vec_items c.play_into-first.result) c.play_into-first.new.list c.play_into-first.new.punches in
+    let second = λ (w : ℕ). played g.L.Key.made g.L.Key.at_least g.Q.Punch.room g.Q.Punch.written w c.args.other_list.now qs c.args.other_calls.now (vec_items c.play_into-second.result) c.play_into-second.new.list c.play_into-second.new.punches in
+    let s = seated g.D.Panel.shows c.args.panels.now c.args.board_calls.now (vec_items c.play_into-board.result) c.play_into-board.new.panels in
+    let held : (b : ℕ → ℕ → Bool) → Knows b (lots_by (verdict bits)) bits → Sat b (verdict bits) s = λ b k. sat (verdict bits) b s (c.play_into-board.ensures b k).0 (c.play_into-board.ensures b k).1 in
     let kept : Kept first = record {
       ordered = keys_order_lots g.K.Key.at_least g.met.K.Key.total g.met.K.Key.transitive;
       even = length-map ps g.P.Punch.written ∙ sym (length-map ps g.P.Punch.room);
       most = omega arith;
-      by = c.play-into-first.ensures.ledger;
+      by = c.play_into-first.ensures.ledger;
     } in
     let also : Kept (second work) = record {
       ordered = keys_order_lots g.L.Key.at_least g.met.L.Key.total g.met.L.Key.transitive;
       even = length-map qs g.Q.Punch.written ∙ sym (length-map qs g.Q.Punch.room);
       most = omega arith;
-      by = subst (λ w. ByTheLedger (second w)) c.play-into-first.auto.work c.play-into-second.ensures.ledger;
+      by = subst (λ w. ByTheLedger (second w)) c.play_into-first.auto.work c.play_into-second.ensures.ledger;
     } in
     record {
-      reply = c.if-not-have-room.ensures;
-      promise = promise bits s held first (second work) _ kept also c.rebuild-from-rebuilt.ensures;
-      rooms = (c.play-into-first.ensures.rooms, c.play-into-second.ensures.rooms);
-      homes = (c.play-into-first.ensures.homes, c.play-into-second.ensures.homes);
-      rest = c.play-into-second.ensures.rest ∙ c.play-into-first.ensures.rest;
+      reply = c.if-not-have_room.ensures;
+      promise = promise bits s held first (second work) _ kept also c.rebuild_from-rebuilt.ensures;
+      rooms = (c.play_into-first.ensures.rooms, c.play_into-second.ensures.rooms);
+      homes = (c.play_into-first.ensures.homes, c.play_into-second.ensures.homes);
+      rest = c.play_into-second.ensures.rest ∙ c.play_into-first.ensures.rest;
       unplayed = tt;
     }

@@ -3,7 +3,7 @@ use Rattle.std.specs.List.{slice_get}
 use Rattle.std.proofs.lemmas.List.{length-map}
 use Rattle.bits.proofs.Bitlists.{zero_yes, zero_no, rank_past}
 use Rattle.bits.proofs.tape.Tape.select_zero.Goals as goal
-use Rattle.bits.proofs.tape.Tape.select_zero.Goals.{then-not-unwrap-or+else-left-eq0, else-not-unwrap-or}
+use Rattle.bits.proofs.tape.Tape.select_zero.Goals.{then-not-unwrap_or+else-left-eq0, else-not-unwrap_or}
 
 pub returns-then-left-eq0 : goal.returns-then-left-eq0
 returns-then-left-eq0 g c =
@@ -18,12 +18,12 @@ loop-p-preserved g c =
     let bs = g.Self.Tape.bits c.args.self.now in
     let i = c.loop-p.p in
     let h : i < length bs = omega (arith, c.len-p-end.ensures.is) in
-    elim c.if-not-unwrap-or.branch [
-      | then-not-unwrap-or+else-left-eq0 w ↦
-          let e : unwrap_or (slice_get bs i) true ≡ false = cc w.if-not-unwrap-or.true in
+    elim c.if-not-unwrap_or.branch [
+      | then-not-unwrap_or+else-left-eq0 w ↦
+          let e : unwrap_or (slice_get bs i) true ≡ false = cc w.if-not-unwrap_or.true in
           (omega (arith, (zero_yes bs i h e).1), omega arith)
-      | else-not-unwrap-or w ↦
-          let e : unwrap_or (slice_get bs i) true ≡ true = cc w.if-not-unwrap-or.false in
+      | else-not-unwrap_or w ↦
+          let e : unwrap_or (slice_get bs i) true ≡ true = cc w.if-not-unwrap_or.false in
           (omega (arith, zero_no bs i e), omega arith)
     ]
 

@@ -10,11 +10,11 @@ returns-then-self-capacity c =
     record {
       bits = (
         (λ full. omega (arith, length_packed bytes n)),
-        packed_put bytes c.put-bit.new.bytes n c.args.bit h c.put-bit.ensures,
+        packed_put bytes c.put_bit.new.bytes n c.args.bit h c.put_bit.ensures,
       );
-      room = omega (arith, c.put-bit.auto.bytes);
+      room = omega (arith, c.put_bit.auto.bytes);
       home = refl;
-      bytes = (c.put-bit.ensures, refl);
+      bytes = (c.put_bit.ensures, refl);
     }
 
 pub returns-else-self-capacity : goal.returns-else-self-capacity
