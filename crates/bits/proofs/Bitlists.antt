@@ -1,7 +1,7 @@
 -- Lemmas on lists of bits: rank step by step, flipped and windowed lists, select.
-use Rattle.std.proofs.Common.{◌≡◌, ℕ, zero, suc, ◌+◌, ◌-◌, ◌<◌, ◌≤◌, min, Bool, true, false, not, List, [], ◌∷◌, ◌++◌, map, length, take, drop, Some, None, Decides, Option, unwrap_or, sym, refl, ap, ◌∙◌, subst, ⊎_elim, add-one, arith, MatchOption}
+use Rattle.std.proofs.Common.{◌≡◌, ℕ, zero, suc, ◌+◌, ◌-◌, ◌<◌, ◌≤◌, min, Bool, true, false, not, List, [], ◌∷◌, ◌++◌, map, length, take, drop, Some, None, Decides, Option, unwrap_or, sym, refl, ap, ◌∙◌, subst, ⊎_elim, add-one, arith}
 use Rattle.std.specs.List.{slice_get}
-use Rattle.std.specs.Option.{option_map}
+use Rattle.std.specs.Option.{option_map, option_eq}
 use Rattle.std.proofs.lemmas.List.{take_all, take-take, length-take, length-drop, length-map}
 use Rattle.std.proofs.lemmas.Bool.{cases_lt}
 use Rattle.std.proofs.lemmas.Bool.Decides.{Decides-like}
@@ -151,11 +151,11 @@ select_one bs j (Some p) (Some q) s t = ap Some (same_place bs p q s.0 t.0 (omeg
 -- ---- the same answers
 
 -- what `==` on options decides
-pub options_same : {X : Type 0} (a b : Option X) (r : Bool) → MatchOption a (MatchOption b (r ≡ true) (λ y. r ≡ false)) (λ x. MatchOption b (r ≡ false) (λ y. Decides r (x ≡ y))) → Decides r (a ≡ b)
-options_same None None r h = (λ t. refl, λ e. h)
-options_same None (Some y) r h = (λ t. cc, λ e. cc)
-options_same (Some x) None r h = (λ t. cc, λ e. cc)
-options_same (Some x) (Some y) r h = Decides-like r (λ (e : x ≡ y). ap Some e) (λ (e : Some x ≡ Some y). cc) h
+pub options_same : {X : Type 0} (E : X → X → Bool) → ((x y : X) → Decides (E x y) (x ≡ y)) → (a b : Option X) (r : Bool) → r ≡ option_eq E a b → Decides r (a ≡ b)
+options_same E d None None r e = (λ t. refl, λ h. e)
+options_same E d None (Some y) r e = (λ t. cc, λ h. cc)
+options_same E d (Some x) None r e = (λ t. cc, λ h. cc)
+options_same E d (Some x) (Some y) r e = Decides-like r (λ (h : x ≡ y). ap Some h) (λ (h : Some x ≡ Some y). cc) (subst (λ (q : Bool). Decides q (x ≡ y)) (sym e) (d x y))
 
 -- where the other three answers are the same, the answers to select decide
 pub selects_agree : (xs ys : List Bool) (p : ℕ) (a b : Option ℕ) (r : Bool) → length xs ≡ length ys → slice_get xs p ≡ slice_get ys p → rank_of xs p ≡ rank_of ys p → Select xs p a → Select ys p b → Decides r (a ≡ b) → Decides r (Agrees xs ys p)

@@ -57,12 +57,12 @@ fn cast_in<L: Lots, P: Punch>(
     work: &mut [u32],
     n: usize,
 ) -> Result<u32, CastFault>
-    requires count { (n ≡ count lots.now) × (n < 2 ^ 30) }
-    requires strict { Strict (order lots.now) }
+    requires count { (n ≡ L.Lots.count lots.now) × (n < 2 ^ 30) }
+    requires strict { Strict (L.Lots.order lots.now) }
     requires numbers { length work.old ≡ 4 * (n + 1) }
-    ensures bits { casting (written punch.new) (answered told result) ≡ punch_of_sheet (sheet (order lots.now) n) (room punch.old) (written punch.old) }
-    ensures room { room punch.new ≡ room punch.old }
-    ensures home { home punch.new ≡ home punch.old }
+    ensures bits { casting (P.Punch.written punch.new) (answered told result) ≡ punch_of_sheet (sheet (L.Lots.order lots.now) n) (P.Punch.room punch.old) (P.Punch.written punch.old) }
+    ensures room { P.Punch.room punch.new ≡ P.Punch.room punch.old }
+    ensures home { P.Punch.home punch.new ≡ P.Punch.home punch.old }
 {
     let (up, others) = work.split_at_mut(n + 1);
     let (left, more) = others.split_at_mut(n + 1);
@@ -73,11 +73,11 @@ fn cast_in<L: Lots, P: Punch>(
 
 /// Casts the sheet of `lots`: links them in the working numbers, and then punches the brackets and the words.
 pub fn cast<L: Lots, P: Punch>(lots: &L, punch: &mut P, work: &mut [u32]) -> Result<u32, CastFault>
-    ensures bits { casting (written punch.new) (answered told result) ≡ cast_sheet (sheet (order lots.now) (count lots.now)) (count lots.now) (room punch.old) (length work.old) (written punch.old) }
-    ensures room { room punch.new ≡ room punch.old }
-    ensures home { home punch.new ≡ home punch.old }
-    ensures rest { drop (4 * suc (count lots.now)) work.new ≡ drop (4 * suc (count lots.now)) work.old }
-    ensures kept { length work.old < 4 * suc (count lots.now) → work.new ≡ work.old }
+    ensures bits { casting (P.Punch.written punch.new) (answered told result) ≡ cast_sheet (sheet (L.Lots.order lots.now) (L.Lots.count lots.now)) (L.Lots.count lots.now) (P.Punch.room punch.old) (length work.old) (P.Punch.written punch.old) }
+    ensures room { P.Punch.room punch.new ≡ P.Punch.room punch.old }
+    ensures home { P.Punch.home punch.new ≡ P.Punch.home punch.old }
+    ensures rest { drop (4 * suc (L.Lots.count lots.now)) work.new ≡ drop (4 * suc (L.Lots.count lots.now)) work.old }
+    ensures kept { length work.old < 4 * suc (L.Lots.count lots.now) → work.new ≡ work.old }
 {
     let n = lots.len();
     if work.len() / 4 <= n {

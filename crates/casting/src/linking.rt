@@ -9,12 +9,12 @@ use links::zero;
 
 /// Where lot `k` hangs: its parent, and the best of the lots between the two, or 0.
 fn climb<L: Lots>(lots: &L, up: &[u32], k: usize) -> (u32, u32)
-    requires lot { (1 ≤ k) × (k ≤ count lots.now) × (k < length up.now) × (k < 2 ^ 30) }
-    requires strict { Strict (order lots.now) }
-    requires parents { (m : ℕ) → 1 ≤ m → m < k → slice_index up.now m ≡ parent (order lots.now) m }
-    ensures parent { result.0 ≡ parent (order lots.now) k }
+    requires lot { (1 ≤ k) × (k ≤ L.Lots.count lots.now) × (k < length up.now) × (k < 2 ^ 30) }
+    requires strict { Strict (L.Lots.order lots.now) }
+    requires parents { (m : ℕ) → 1 ≤ m → m < k → slice_index up.now m ≡ parent (L.Lots.order lots.now) m }
+    ensures parent { result.0 ≡ parent (L.Lots.order lots.now) k }
     ensures below { result.0 < k }
-    ensures top { Top (order lots.now) (suc result.0) (k - 1) result.1 }
+    ensures top { Top (L.Lots.order lots.now) (suc result.0) (k - 1) result.1 }
 {
     let mut x = (k - 1) as u32;
     let mut last = 0;
@@ -34,10 +34,10 @@ pub(crate) fn link<L: Lots>(
     kids: &mut [u32],
     n: usize,
 )
-    requires count { (n ≡ count lots.now) × (n < 2 ^ 30) }
-    requires strict { Strict (order lots.now) }
+    requires count { (n ≡ L.Lots.count lots.now) × (n < 2 ^ 30) }
+    requires strict { Strict (L.Lots.order lots.now) }
     requires lengths { (length up.old ≡ suc n) × (length left.old ≡ suc n) × (length right.old ≡ suc n) × (length kids.old ≡ suc n) }
-    ensures { Linked (order lots.now) n n up.new left.new right.new kids.new }
+    ensures { Linked (L.Lots.order lots.now) n n up.new left.new right.new kids.new }
 {
     left[0] = 0;
     zero(right);

@@ -23,10 +23,10 @@ fn measure<L: Lots>(
     n: usize,
 ) -> usize
     requires lengths { (length sizes.old ≡ suc n) × (length left.now ≡ suc n) × (length right.now ≡ suc n) × (length kids.now ≡ suc n) }
-    requires ready { Ready (order lots.now) n left.now right.now kids.now }
+    requires ready { Ready (L.Lots.order lots.now) n left.now right.now kids.now }
     requires few { n < 2 ^ 30 }
-    ensures sized { Sized (order lots.now) n n sizes.new }
-    ensures all { result ≡ length (spines (order lots.now) n) }
+    ensures sized { Sized (L.Lots.order lots.now) n n sizes.new }
+    ensures all { result ≡ length (spines (L.Lots.order lots.now) n) }
 {
     let mut all = 0;
     for k in 1..n + 1 {
@@ -39,10 +39,10 @@ fn measure<L: Lots>(
 
 /// Punches a count: so many set bits and then another.
 fn punch_count<P: Punch>(punch: &mut P, count: u32)
-    requires { length (written punch.old) + suc count ≤ room punch.old }
-    ensures bits { written punch.new ≡ written punch.old ++ unary count }
-    ensures room { room punch.new ≡ room punch.old }
-    ensures home { home punch.new ≡ home punch.old }
+    requires { length (P.Punch.written punch.old) + suc count ≤ P.Punch.room punch.old }
+    ensures bits { P.Punch.written punch.new ≡ P.Punch.written punch.old ++ unary count }
+    ensures room { P.Punch.room punch.new ≡ P.Punch.room punch.old }
+    ensures home { P.Punch.home punch.new ≡ P.Punch.home punch.old }
 {
     for _ in 0..count {
         let _ = punch.append(true);
@@ -52,10 +52,10 @@ fn punch_count<P: Punch>(punch: &mut P, count: u32)
 
 /// Punches the counts of children.
 fn punch_brackets<P: Punch>(punch: &mut P, kids: &[u32])
-    requires { length (written punch.old) + length (tallies kids.now) ≤ room punch.old }
-    ensures bits { written punch.new ≡ written punch.old ++ tallies kids.now }
-    ensures room { room punch.new ≡ room punch.old }
-    ensures home { home punch.new ≡ home punch.old }
+    requires { length (P.Punch.written punch.old) + length (tallies kids.now) ≤ P.Punch.room punch.old }
+    ensures bits { P.Punch.written punch.new ≡ P.Punch.written punch.old ++ tallies kids.now }
+    ensures room { P.Punch.room punch.new ≡ P.Punch.room punch.old }
+    ensures home { P.Punch.home punch.new ≡ P.Punch.home punch.old }
 {
     for j in 0..kids.len() {
         punch_count(punch, kids[j]);
@@ -64,8 +64,8 @@ fn punch_brackets<P: Punch>(punch: &mut P, kids: &[u32])
 
 /// Whether of two lots, or 0 for none, the second comes next.
 fn turns<L: Lots>(lots: &L, i: u32, j: u32) -> bool
-    requires { (i ≤ count lots.now) × (j ≤ count lots.now) }
-    ensures { result ≡ turn (order lots.now) i j }
+    requires { (i ≤ L.Lots.count lots.now) × (j ≤ L.Lots.count lots.now) }
+    ensures { result ≡ turn (L.Lots.order lots.now) i j }
 {
     i == 0 || (j != 0 && !lots.beats(i as usize, j as usize))
 }
@@ -79,14 +79,14 @@ fn punch_word<L: Lots, P: Punch>(
     from: (u32, u32),
     size: u32,
 )
-    requires lengths { (length left.now ≡ suc (count lots.now)) × (length right.now ≡ suc (count lots.now)) }
-    requires from { (from.0 ≤ count lots.now) × (from.1 ≤ count lots.now) }
-    requires lowers { AtMost (count lots.now) left.now }
-    requires uppers { AtMost (count lots.now) right.now }
-    requires room { length (written punch.old) + size ≤ room punch.old }
-    ensures bits { written punch.new ≡ written punch.old ++ merge (order lots.now) left.now right.now size from.0 from.1 }
-    ensures room { room punch.new ≡ room punch.old }
-    ensures home { home punch.new ≡ home punch.old }
+    requires lengths { (length left.now ≡ suc (L.Lots.count lots.now)) × (length right.now ≡ suc (L.Lots.count lots.now)) }
+    requires from { (from.0 ≤ L.Lots.count lots.now) × (from.1 ≤ L.Lots.count lots.now) }
+    requires lowers { AtMost (L.Lots.count lots.now) left.now }
+    requires uppers { AtMost (L.Lots.count lots.now) right.now }
+    requires room { length (P.Punch.written punch.old) + size ≤ P.Punch.room punch.old }
+    ensures bits { P.Punch.written punch.new ≡ P.Punch.written punch.old ++ merge (L.Lots.order lots.now) left.now right.now size from.0 from.1 }
+    ensures room { P.Punch.room punch.new ≡ P.Punch.room punch.old }
+    ensures home { P.Punch.home punch.new ≡ P.Punch.home punch.old }
 {
     let mut i = from.0;
     let mut j = from.1;
@@ -111,14 +111,14 @@ fn punch_words<L: Lots, P: Punch>(
     kids: &[u32],
     n: usize,
 )
-    requires count { (n ≡ count lots.now) × (n < 2 ^ 30) }
+    requires count { (n ≡ L.Lots.count lots.now) × (n < 2 ^ 30) }
     requires lengths { (length sizes.now ≡ suc n) × (length left.now ≡ suc n) × (length right.now ≡ suc n) }
-    requires ready { Ready (order lots.now) n left.now right.now kids.now }
-    requires sized { Sized (order lots.now) n n sizes.now }
-    requires room { length (written punch.old) + length (spines (order lots.now) n) ≤ room punch.old }
-    ensures bits { written punch.new ≡ written punch.old ++ spines (order lots.now) n }
-    ensures room { room punch.new ≡ room punch.old }
-    ensures home { home punch.new ≡ home punch.old }
+    requires ready { Ready (L.Lots.order lots.now) n left.now right.now kids.now }
+    requires sized { Sized (L.Lots.order lots.now) n n sizes.now }
+    requires room { length (P.Punch.written punch.old) + length (spines (L.Lots.order lots.now) n) ≤ P.Punch.room punch.old }
+    ensures bits { P.Punch.written punch.new ≡ P.Punch.written punch.old ++ spines (L.Lots.order lots.now) n }
+    ensures room { P.Punch.room punch.new ≡ P.Punch.room punch.old }
+    ensures home { P.Punch.home punch.new ≡ P.Punch.home punch.old }
 {
     for k in 1..n + 1 {
         punch_word(lots, punch, left, right, (left[k], right[k]), sizes[k]);
@@ -135,14 +135,14 @@ fn punch_sheet<L: Lots, P: Punch>(
     kids: &[u32],
     n: usize,
 )
-    requires count { (n ≡ count lots.now) × (n < 2 ^ 30) }
+    requires count { (n ≡ L.Lots.count lots.now) × (n < 2 ^ 30) }
     requires lengths { (length sizes.now ≡ suc n) × (length left.now ≡ suc n) × (length right.now ≡ suc n) }
-    requires ready { Ready (order lots.now) n left.now right.now kids.now }
-    requires sized { Sized (order lots.now) n n sizes.now }
-    requires room { length (sheet (order lots.now) n) ≤ room punch.old }
-    ensures bits { written punch.new ≡ sheet (order lots.now) n }
-    ensures room { room punch.new ≡ room punch.old }
-    ensures home { home punch.new ≡ home punch.old }
+    requires ready { Ready (L.Lots.order lots.now) n left.now right.now kids.now }
+    requires sized { Sized (L.Lots.order lots.now) n n sizes.now }
+    requires room { length (sheet (L.Lots.order lots.now) n) ≤ P.Punch.room punch.old }
+    ensures bits { P.Punch.written punch.new ≡ sheet (L.Lots.order lots.now) n }
+    ensures room { P.Punch.room punch.new ≡ P.Punch.room punch.old }
+    ensures home { P.Punch.home punch.new ≡ P.Punch.home punch.old }
 {
     punch.clear();
     let _ = punch.append(true);
@@ -160,13 +160,13 @@ pub(crate) fn punch_linked<L: Lots, P: Punch>(
     kids: &[u32],
     n: usize,
 ) -> Result<u32, CastFault>
-    requires count { (n ≡ count lots.now) × (n < 2 ^ 30) }
-    requires strict { Strict (order lots.now) }
+    requires count { (n ≡ L.Lots.count lots.now) × (n < 2 ^ 30) }
+    requires strict { Strict (L.Lots.order lots.now) }
     requires lengths { (length up.old ≡ suc n) × (length left.now ≡ suc n) × (length right.now ≡ suc n) × (length kids.now ≡ suc n) }
-    requires linked { Linked (order lots.now) n n up.old left.now right.now kids.now }
-    ensures bits { casting (written punch.new) (answered told result) ≡ punch_of_sheet (sheet (order lots.now) n) (room punch.old) (written punch.old) }
-    ensures room { room punch.new ≡ room punch.old }
-    ensures home { home punch.new ≡ home punch.old }
+    requires linked { Linked (L.Lots.order lots.now) n n up.old left.now right.now kids.now }
+    ensures bits { casting (P.Punch.written punch.new) (answered told result) ≡ punch_of_sheet (sheet (L.Lots.order lots.now) n) (P.Punch.room punch.old) (P.Punch.written punch.old) }
+    ensures room { P.Punch.room punch.new ≡ P.Punch.room punch.old }
+    ensures home { P.Punch.home punch.new ≡ P.Punch.home punch.old }
 {
     let length = 2 * (n + 1) + measure(lots, up, left, right, kids, n);
     if punch.capacity() < length {

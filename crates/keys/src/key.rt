@@ -41,14 +41,14 @@ pub trait Key: Sized {
 
 /// Whether two keys are level: each is at least as good as the other.
 pub fn level<K: Key>(a: &K, b: &K) -> bool
-    ensures { result ≡ level_by at_least a.now b.now }
+    ensures { result ≡ level_by K.Key.at_least a.now b.now }
 {
     a.at_least(b) && b.at_least(a)
 }
 
 /// Whether `a` leads `b`: it is at least as good, and either better or the first of the two.
 pub fn ahead<K: Key>(a: &K, b: &K, first: bool) -> bool
-    ensures { result ≡ leads at_least a.now b.now first }
+    ensures { result ≡ leads K.Key.at_least a.now b.now first }
 {
     a.at_least(b) && (!b.at_least(a) || first)
 }
@@ -62,7 +62,7 @@ pub fn has_count<K: Key>(fields: &[u32]) -> bool
 
 /// Every list of keys puts its lots in a strict order: the two laws of a kind are all that this needs.
 pub fn lots_are_ordered<K: Key>() -> u8
-    ensures { (keys : List K) → Strict (beats at_least keys) }
+    ensures { (keys : List K) → Strict (beats K.Key.at_least keys) }
 {
     0
 }

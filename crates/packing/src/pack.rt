@@ -19,9 +19,9 @@ pub struct Sizes {
 
 /// The sizes of a tape.
 pub fn measure<T: Tape>(tape: &T) -> Sizes
-    ensures bits { result.bits ≡ length (bits tape.now) }
-    ensures ones { result.ones ≡ ones (bits tape.now) }
-    ensures bytes { result.bytes ≡ bytes_for (length (bits tape.now)) }
+    ensures bits { result.bits ≡ length (T.Tape.bits tape.now) }
+    ensures ones { result.ones ≡ ones (T.Tape.bits tape.now) }
+    ensures bytes { result.bytes ≡ bytes_for (length (T.Tape.bits tape.now)) }
 {
     let bits = tape.len();
     Sizes {
@@ -33,7 +33,7 @@ pub fn measure<T: Tape>(tape: &T) -> Sizes
 
 /// Packs the bits of a tape into bytes and tells how many they are; refused, with the bytes unchanged, if there is no room.
 pub fn pack<T: Tape>(tape: &T, bytes: &mut [u8]) -> Result<usize, Full>
-    ensures { MatchResult result (λ n. PackedInto (bits tape.now) n bytes.old bytes.new) (λ _. (packed_room bytes.old < length (bits tape.now)) × (bytes.new ≡ bytes.old)) }
+    ensures { MatchResult result (λ n. PackedInto (T.Tape.bits tape.now) n bytes.old bytes.new) (λ _. (packed_room bytes.old < length (T.Tape.bits tape.now)) × (bytes.new ≡ bytes.old)) }
 {
     let n = tape.len();
     let mut punch = PackedPunch::new(bytes);

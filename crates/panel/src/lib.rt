@@ -33,7 +33,7 @@ pub trait Panel {
 
 /// Shows a pair on any panel, and reads it off again.
 pub fn show_then_read<P: Panel>(panel: &mut P, best: u32, second: Option<u32>) -> Shown
-    ensures shown { shows panel.new ≡ told best second }
+    ensures shown { P.Panel.shows panel.new ≡ told best second }
     ensures read { result ≡ told best second }
 {
     panel.show(best, second);

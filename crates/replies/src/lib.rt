@@ -25,7 +25,7 @@ fn letter_of(bit: bool) -> u8
 
 /// Adds bits as letters.
 fn push_letters<T: Tape>(out: &mut Vec<u8>, tape: &T) -> Result<(), AllocError>
-    ensures { OnOk result (out.new.items ≡ out.old.items ++ map letter (bits tape.now)) }
+    ensures { OnOk result (out.new.items ≡ out.old.items ++ map letter (T.Tape.bits tape.now)) }
 {
     for i in 0..tape.len() {
         let one = tape.get(i).unwrap_or(false);
@@ -54,7 +54,7 @@ pub fn reply_refused(out: &mut Vec<u8>, number: u32) -> Result<(), AllocError>
 
 /// `sheet,` and the bits of a tape as letters.
 pub fn reply_sheet<T: Tape>(out: &mut Vec<u8>, tape: &T) -> Result<(), AllocError>
-    ensures { OnOk result (out.new.items ≡ out.old.items ++ sheet_line (bits tape.now)) }
+    ensures { OnOk result (out.new.items ≡ out.old.items ++ sheet_line (T.Tape.bits tape.now)) }
 {
     out.extend_from_slice(b"sheet,")?;
     push_letters(out, tape)?;
