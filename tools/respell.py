@@ -9,10 +9,11 @@ import os
 import re
 import sys
 
-NAME = r'[^\s(){}\[\].;,@"«»|]+'
+NAME = r'[^\s(){}\[\].;:,@"«»|]+'
 TOKEN = re.compile(NAME)
 DECL = re.compile(rf"^(?:(?:abbrev|unfoldable|pub|instance|data|record|opaque|ruleset)\s+)*({NAME})(?=\s*(?::|\(|\{{)|\s+:)")
 FIELD = re.compile(rf"^\s+(?:pub )?({NAME}) :")
+RENAMED = re.compile(r"\bas ([a-z]+[A-Z]\w*)")
 GHOST = re.compile(r"\bghost (\w+)\s*[:=]")
 ANSWERS = re.compile(r"/(Answers|Invariants|Proof)\.antt$")
 KEYWORDS = {"use", "mod", "pub", "unfolding", "let", "in", "where", "ghost", "elim", "rw", "record", "abbrev", "data", "unfoldable"}
@@ -78,6 +79,9 @@ def fields_of(text):
 
 def declared(path, text):
     answers = ANSWERS.search(path)
+    for m in RENAMED.finditer(text):
+        if "ghost use" in text[text.rfind("\n", 0, m.start()) + 1 : m.start()] or path.endswith(".antt"):
+            yield m[1]
     for line in text.split("\n"):
         if line.startswith("--"):
             continue

@@ -2,14 +2,14 @@
 use Rattle.std.specs.Prelude.{◌≡◌, []}
 use Rattle.leaders.specs.Refusal.{Refusal, refusal}
 use Rattle.reading.specs.declared.check.SheetFault.{SheetFault}
-use Rattle.reading.specs.Faults.{told as sheetTold}
+use Rattle.reading.specs.Faults.{told as sheet_told}
 use Rattle.rebuilding.specs.declared.FewNumbers.{FewNumbers}
 use Rattle.board.specs.declared.fault.BoardFault.{BoardFault}
 use Rattle.board.specs.declared.fault.BoardFault.TheVariants.{Sheet, NotTaken, NoPage, NoRoom}
 
 -- 7 to 10 are those of the tape, whole. 11: no sheet is taken. 12: the page begins at lot 0 or past the last, or has size 0. 13: too few prices or working numbers.
 abbrev pub told : BoardFault → Refusal
-told (Sheet f) = sheetTold f
+told (Sheet f) = sheet_told f
 told NotTaken = refusal 11 []
 told NoPage = refusal 12 []
 told NoRoom = refusal 13 []

@@ -9,12 +9,12 @@ use Rattle.board.specs.declared.call.BoardReply.{BoardReply}
 use Rattle.board.specs.declared.call.BoardReply.TheVariants.{Taken, Paged}
 use Rattle.board.specs.declared.call.TurnFault.{TurnFault}
 use Rattle.board.specs.declared.call.TurnFault.TheVariants.{Board, NoPanel}
-use Rattle.board.specs.Faults.{told as boardTold}
+use Rattle.board.specs.Faults.{told as board_told}
 use Rattle.board.specs.Pages.{lots_by, page_reply, page_shows}
 
 -- The refusal of a call in a list: the board's, or 0 where a page names no panel.
 abbrev pub told : TurnFault → Refusal
-told (Board f) = boardTold f
+told (Board f) = board_told f
 told NoPanel = refusal 0 []
 
 -- A board's fault is carried whole.

@@ -6,7 +6,7 @@ ghost use Rattle.leaders.specs.Order.{Strict};
 ghost use Rattle.leaders.specs.Sheet.{sheet};
 ghost use Rattle.leaders.specs.Refusal.{answered};
 ghost use Rattle.leaders.specs.Verdict.{verdict};
-ghost use Rattle.board.specs.Faults.{told as boardTold};
+ghost use Rattle.board.specs.Faults.{told as board_told};
 ghost use Rattle.board.specs.Pages.{lots_by, Knows};
 ghost use Rattle.board.specs.Showing.{told, take_answer, page_answer, turn, turn_of, shows, idle};
 ghost use Rattle.board.specs.Sitting.{sitting, Sat};
@@ -20,7 +20,7 @@ use panel::Panel;
 
 /// What a take answers, as the answer to a call of a list.
 fn taken(reply: Result<u32, BoardFault>) -> Result<BoardReply, TurnFault>
-    ensures { answered told result ≡ take_answer (answered boardTold reply) }
+    ensures { answered told result ≡ take_answer (answered board_told reply) }
 {
     let lots = reply?;
     Ok(BoardReply::Taken(lots))
@@ -28,7 +28,7 @@ fn taken(reply: Result<u32, BoardFault>) -> Result<BoardReply, TurnFault>
 
 /// What a page answers, as the answer to a call of a list.
 fn paged(reply: Result<(), BoardFault>) -> Result<BoardReply, TurnFault>
-    ensures { answered told result ≡ page_answer (answered boardTold reply) }
+    ensures { answered told result ≡ page_answer (answered board_told reply) }
 {
     reply?;
     Ok(BoardReply::Paged)

@@ -2,7 +2,7 @@
 use Rattle.std.specs.Prelude.{◌≡◌, []}
 use Rattle.leaders.specs.Refusal.{Refusal, refusal}
 use Rattle.casting.specs.declared.CastFault.{CastFault}
-use Rattle.casting.specs.Casts.{told as castTold}
+use Rattle.casting.specs.Casts.{told as cast_told}
 use Rattle.book.specs.declared.fault.BookFault.{BookFault}
 use Rattle.book.specs.declared.fault.BookFault.TheVariants.{BadFields, BookFull, NoSuchLot, Cast}
 
@@ -11,7 +11,7 @@ abbrev pub told : BookFault → Refusal
 told BadFields = refusal 2 []
 told BookFull = refusal 3 []
 told NoSuchLot = refusal 4 []
-told (Cast f) = castTold f
+told (Cast f) = cast_told f
 
 -- A fault of a cast is carried whole.
 abbrev pub carries : CastFault → BookFault → Type 0

@@ -10,7 +10,7 @@ pub trait Key: Sized {
     ghost arity: { ℕ };
 
     // The first key is at least as good as the second.
-    ghost atLeast: { Self → Self → Bool };
+    ghost at_least: { Self → Self → Bool };
 
     // The key that these fields make, if they make one.
     ghost made: { List ℕ → Option Self };

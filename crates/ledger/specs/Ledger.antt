@@ -7,13 +7,13 @@ use Rattle.ledger.specs.declared.call.BookCall.TheVariants.{Add, Strike, NewKey,
 use Rattle.book.specs.declared.fault.BookFault.{BookFault}
 use Rattle.ledger.specs.declared.call.CallFault.{CallFault}
 use Rattle.ledger.specs.declared.call.CallFault.TheVariants.{Book, NoPunch}
-use Rattle.book.specs.Faults.{told as bookTold}
+use Rattle.book.specs.Faults.{told as book_told}
 use Rattle.book.specs.Entries.{Entry, add_key, set_key, strike_lot, sheet_of}
 use Rattle.book.specs.Held.{numbers}
 
 -- The refusal of a call in a list: the book's, or 0 where a cast names no punch.
 abbrev pub told : CallFault → Refusal
-told (Book f) = bookTold f
+told (Book f) = book_told f
 told NoPunch = refusal 0 []
 
 -- A book's fault is carried whole.

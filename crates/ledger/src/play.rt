@@ -3,7 +3,7 @@
 ghost use Rattle.std.specs.Prelude.{◌≡◌, ◌≤◌, [], map, length, take, drop, is_ok, IfOk, vec_len, vec_capacity, OnErr};
 ghost use Rattle.answers.specs.Room.{roomy};
 ghost use Rattle.leaders.specs.Refusal.{answered};
-ghost use Rattle.book.specs.Faults.{told as bookTold};
+ghost use Rattle.book.specs.Faults.{told as book_told};
 ghost use Rattle.book.specs.Entries.{room_for};
 ghost use Rattle.book.specs.Held.{keys_in};
 ghost use Rattle.ledger.specs.Ledger.{told, terms, step, step_of, ledger, after, blank};
@@ -17,7 +17,7 @@ use keys::key::Key;
 
 /// What a book answers, as the answer to a call of a list.
 fn carried(reply: Result<u32, BookFault>) -> Result<u32, CallFault>
-    ensures { answered told result ≡ answered bookTold reply }
+    ensures { answered told result ≡ answered book_told reply }
 {
     let lots = reply?;
     Ok(lots)

@@ -12,12 +12,12 @@ use Rattle.ledger.specs.declared.call.BookCall.{BookCall}
 use Rattle.ledger.specs.declared.call.BookCall.TheVariants.{Add, Cast}
 use Rattle.ledger.specs.declared.call.CallFault.{CallFault}
 use Rattle.book.specs.Entries.{room_for}
-use Rattle.ledger.specs.Ledger.{Terms, terms, Ledger, ledger, after, blank, told as bookTold}
+use Rattle.ledger.specs.Ledger.{Terms, terms, Ledger, ledger, after, blank, told as book_told}
 use Rattle.panel.specs.declared.shown.Shown.{Shown}
 use Rattle.board.specs.declared.fault.BoardFault.{BoardFault}
 use Rattle.board.specs.declared.call.TurnFault.{TurnFault}
-use Rattle.board.specs.Faults.{told as boardTold}
-use Rattle.board.specs.Showing.{told as turnTold}
+use Rattle.board.specs.Faults.{told as board_told}
+use Rattle.board.specs.Showing.{told as turn_told}
 use Rattle.board.specs.declared.call.BoardCall.{BoardCall}
 use Rattle.board.specs.declared.call.BoardCall.TheVariants.{Take}
 use Rattle.board.specs.declared.call.BoardReply.{BoardReply}
@@ -41,14 +41,14 @@ played made at_least room written work list punches calls answers list-after pun
   terms = terms made at_least (room_for (length list)) (map room punches) work;
   before = map written punches;
   calls = calls;
-  answers = map (answered bookTold) answers;
+  answers = map (answered book_told) answers;
   list = list-after;
   bits = map written punches-after;
 }
 
 -- A list of takes and pages on a new board as it was performed, from what its panels are before and after.
 abbrev pub seated : {D : Type 0} → (D → Shown) → List D → List BoardCall → List (Result BoardReply TurnFault) → List D → Sitting
-seated shows panels calls answers panels-after = sitting (map shows panels) calls (map (answered turnTold) answers) (map shows panels-after)
+seated shows panels calls answers panels-after = sitting (map shows panels) calls (map (answered turn_told) answers) (map shows panels-after)
 
 -- The ledger after some calls on that book's terms, and the order of some of its keys.
 abbrev pub ledger_at : {K : Type 0} → Play K → List BookCall → Ledger K
@@ -126,7 +126,7 @@ pub record Return : Type 0 where
   pub reply : Result ℕ Refusal
 
 abbrev pub returned : List ℕ → List ℕ → List ℕ → List ℕ → Result ℕ BoardFault → Return
-returned ps ws qs vs r = record { prices_were = ps; work_was = ws; prices = qs; work = vs; reply = answered boardTold r }
+returned ps ws qs vs r = record { prices_were = ps; work_was = ws; prices = qs; work = vs; reply = answered board_told r }
 
 -- The lists remain.
 abbrev pub Untouched : Return → Type 0

@@ -1,11 +1,11 @@
 use Rattle.std.proofs.Common.{Err, sym, ap, ◌∙◌}
 use Rattle.std.proofs.lemmas.Result.{err_from_is_err_and}
 use Rattle.leaders.specs.Refusal.{answered}
-use Rattle.board.specs.Faults.{told as boardTold}
+use Rattle.board.specs.Faults.{told as board_told}
 use Rattle.board.specs.Showing.{told, take_answer}
 use Rattle.board.proofs.play.taken.Goals as goal
 
 pub returns-in_err-lots : goal.returns-in_err-lots
 returns-in_err-lots c =
     let p = err_from_is_err_and c.from_residual.result c.from_residual.ensures.1 in
-    ap (answered told) (p.1 ∙ ap Err p.2) ∙ sym (ap (λ z. take_answer (answered boardTold z)) c.in_err-lots.was)
+    ap (answered told) (p.1 ∙ ap Err p.2) ∙ sym (ap (λ z. take_answer (answered board_told z)) c.in_err-lots.was)

@@ -2,7 +2,7 @@ use Rattle.std.proofs.Common.{◌≡◌, Ok, Err, refl, ap, ◌∙◌}
 use Rattle.std.proofs.lemmas.Result.{err_from_is_err_and}
 use Rattle.leaders.specs.Refusal.{answered}
 use Rattle.leaders.specs.Verdict.{verdict}
-use Rattle.reading.specs.Faults.{told as sheetTold}
+use Rattle.reading.specs.Faults.{told as sheet_told}
 use Rattle.board.specs.Faults.{told}
 use Rattle.board.specs.Pages.{lots_by}
 use Rattle.board.proofs.Taking.{taken_when}
@@ -12,7 +12,7 @@ pub returns-in_err-n : goal.returns-in_err-n
 returns-in_err-n g c =
     let bits = g.T.Tape.bits c.args.self.now.tape in
     let p = err_from_is_err_and c.from_residual.result c.from_residual.ensures.1 in
-    let said : Err (sheetTold c.in_err-n.field-0.0) ≡ verdict bits = c.in_err-n.ensures in
+    let said : Err (sheet_told c.in_err-n.field-0.0) ≡ verdict bits = c.in_err-n.ensures in
     let e : answered told c.from_residual.result ≡ verdict bits = ap (answered told) (p.1 ∙ ap Err p.2) ∙ said in
     record {
       verdict = e;

@@ -1,7 +1,7 @@
 use Rattle.std.proofs.Common.{◌≡◌, suc, ◌-◌, ◌*◌, ◌<◌, length, drop, Err, ap, ◌∙◌, subst, arith}
 use Rattle.std.proofs.lemmas.Result.{err_from_is_err_and}
 use Rattle.leaders.specs.Refusal.{answered}
-use Rattle.casting.specs.Casts.{casting, told as castTold}
+use Rattle.casting.specs.Casts.{casting, told as cast_told}
 use Rattle.book.specs.Faults.{told}
 use Rattle.book.proofs.Casts.{few, counted, cast_is}
 use Rattle.book.proofs.book.Book.cast.Goals as goal
@@ -30,7 +30,7 @@ returns-in_err-bits g c =
     let m = counted xs c.args.self.now.count c.len-n.result c.len-n.ensures in
     let h = c.in_err-bits.ensures in
     let p = err_from_is_err_and c.from_residual.result c.from_residual.ensures.1 in
-    let carried : answered told c.from_residual.result ≡ Err (castTold c.in_err-bits.field-0.0) = ap (answered told) (p.1 ∙ ap Err p.2) in
+    let carried : answered told c.from_residual.result ≡ Err (cast_told c.in_err-bits.field-0.0) = ap (answered told) (p.1 ∙ ap Err p.2) in
     record {
       bits = ap (casting (g.P.Punch.written c.cast.new.punch)) carried ∙ h.bits ∙ e;
       room = h.room;
