@@ -55,7 +55,7 @@ pub fn ahead<K: Key>(a: &K, b: &K, first: bool) -> bool
 
 /// Whether there are as many fields as a key of this kind has.
 pub fn has_count<K: Key>(fields: &[u32]) -> bool
-    ensures { result ≡ (length fields.now == arity) }
+    ensures { result ≡ (length fields.now == K.Key.arity) }
 {
     fields.len() == K::count()
 }

@@ -12,7 +12,7 @@ use std::alloc::AllocError;
 fn push_number(out: &mut Vec<u8>, n: u32) -> Result<(), AllocError>
     ensures { OnOk result (out.new.items ≡ out.old.items ++ decimal n) }
 {
-    let text = format!(in out.allocator(); "{n}")?;
+    let text = format!(in *out.allocator(); "{n}")?;
     out.extend_from_slice(text.as_bytes())
 }
 
