@@ -95,7 +95,7 @@ def declared(path, text):
             if not (answers and re.search(rf": (goal|Goals|Given)\.", line)):
                 yield m[1]
         m = FIELD.match(line)
-        if m and ("pub" in line or "/specs/" in path):
+        if m and ("pub" in line or "/specs/" in path or not answers and "-" in m[1]):
             yield m[1]
 
 

@@ -2,11 +2,13 @@
 use Rattle.std.proofs.Common.{◌≡◌, ℕ, ◌+◌, ◌<◌, ◌≤◌, Bool, true, false, cond, ltb, ◌≢◌, List, [], ◌∷◌, ◌++◌, length, get_or, set, Ok, Err, Option, Result, sym, refl, ap, ◌∙◌, subst, arith}
 use Rattle.std.proofs.lemmas.List.{length-set, length-append, append_assoc, append-nil, get_or-set_same, get_or-set_other}
 use Rattle.std.proofs.lemmas.Bool.{lt-ltb, cond-true}
-use Rattle.leaders.specs.Order.{Strict}
+use Rattle.leaders.specs.Order.{Strict, beats, dearer}
 use Rattle.leaders.specs.Sheet.{sheet}
 use Rattle.leaders.specs.Refusal.{Refusal, refusal}
 use Rattle.leaders.specs.Verdict.{verdict}
 use Rattle.leaders.proofs.Verdicts.{accepts_sheets}
+use Rattle.leaders.proofs.Merging.{prices_strict}
+use Rattle.leaders.proofs.Promises.{accepted_exactly_when_cast}
 use Rattle.panel.specs.declared.shown.Shown.{Shown}
 use Rattle.panel.specs.declared.shown.Shown.TheVariants.{Blank}
 use Rattle.board.specs.declared.call.BoardCall.{BoardCall}
@@ -49,25 +51,25 @@ module _ (v : Result ℕ Refusal) (b : ℕ → ℕ → Bool) where
       let said : es ++ a ∷ rs ≡ l.answers ++ x ∷ qs = sym e ∙ ap (λ (z : Showing). z.answers) (shows_append s f (Take ∷ g)) ∙ h ∙ append_assoc l.answers (x ∷ []) qs in
       split_same es l.answers rs qs a x (n ∙ sym many) said
 
-  page-shown : (l : Option ℕ) (ss : List Shown) (p : ℕ) (x : Shown) (a : Result BoardReply Refusal) (t : Bool) → length (cond t (turn l (set ss p x) a) (turn l ss (Err (refusal 0 [])))).shown ≡ length ss
-  page-shown l ss p x a true = length-set ss p x
-  page-shown l ss p x a false = refl
+  page_shown : (l : Option ℕ) (ss : List Shown) (p : ℕ) (x : Shown) (a : Result BoardReply Refusal) (t : Bool) → length (cond t (turn l (set ss p x) a) (turn l ss (Err (refusal 0 [])))).shown ≡ length ss
+  page_shown l ss p x a true = length-set ss p x
+  page_shown l ss p x a false = refl
 
   pub shows_panels : (s : Showing) (cs : List BoardCall) → length (shows v b s cs).shown ≡ length s.shown
   unfolding shows shows1 turn_of
   shows_panels s [] = refl
   shows_panels s (Take ∷ cs) = shows_panels (shows1 v b s Take) cs
-  shows_panels s (Page p i n ∷ cs) = shows_panels (shows1 v b s (Page p i n)) cs ∙ page-shown s.lots s.shown p (page_shows b s.lots i n) _ (ltb p (length s.shown))
+  shows_panels s (Page p i n ∷ cs) = shows_panels (shows1 v b s (Page p i n)) cs ∙ page_shown s.lots s.shown p (page_shows b s.lots i n) _ (ltb p (length s.shown))
 
-  page-other : (l : Option ℕ) (ss : List Shown) (p q : ℕ) (x d : Shown) (a : Result BoardReply Refusal) → q ≢ p → (t : Bool) → get_or (cond t (turn l (set ss q x) a) (turn l ss (Err (refusal 0 [])))).shown p d ≡ get_or ss p d
-  page-other l ss p q x d a ne true = get_or-set_other ss q p x d (λ e. ne (sym e))
-  page-other l ss p q x d a ne false = refl
+  page_other : (l : Option ℕ) (ss : List Shown) (p q : ℕ) (x d : Shown) (a : Result BoardReply Refusal) → q ≢ p → (t : Bool) → get_or (cond t (turn l (set ss q x) a) (turn l ss (Err (refusal 0 [])))).shown p d ≡ get_or ss p d
+  page_other l ss p q x d a ne true = get_or-set_other ss q p x d (λ e. ne (sym e))
+  page_other l ss p q x d a ne false = refl
 
   pub spared : (p : ℕ) (d : Shown) (s : Showing) (cs : List BoardCall) → Spared p cs → get_or (shows v b s cs).shown p d ≡ get_or s.shown p d
   unfolding shows shows1 turn_of
   spared p d s [] h = refl
   spared p d s (Take ∷ cs) h = spared p d (shows1 v b s Take) cs h
-  spared p d s (Page q i n ∷ cs) h = spared p d (shows1 v b s (Page q i n)) cs h.1 ∙ page-other s.lots s.shown p q (page_shows b s.lots i n) d _ h.0 (ltb q (length s.shown))
+  spared p d s (Page q i n ∷ cs) h = spared p d (shows1 v b s (Page q i n)) cs h.1 ∙ page_other s.lots s.shown p q (page_shows b s.lots i n) d _ h.0 (ltb q (length s.shown))
 
 page_lots : (l : Option ℕ) (ss ts : List Shown) (a : Result BoardReply Refusal) (t : Bool) → (cond t (turn l ts a) (turn l ss (Err (refusal 0 [])))).lots ≡ l
 page_lots l ss ts a true = refl
@@ -125,7 +127,6 @@ sat v b s shown answers =
     let said : (f g : List BoardCall) (c : BoardCall) (a : Result BoardReply Refusal) → (h : Answers s f c g a) → (shows v b (idle ss) (f ++ c ∷ g)).answers ≡ h.earlier ++ a ∷ h.later =
     λ f g c a h. ap (λ z. (shows v b (idle ss) z).answers) (sym h.calls_are) ∙ answers ∙ h.answers_are in
     record {
-      all = ap length (sym answers) ∙ shows_many v b (idle ss) s.calls ∙ omega arith;
       takes = λ f g a h. take_says v b (idle ss) refl f g h.earlier h.later a (said f g Take a h) h.in_step;
       pages = λ f g p start size a h.
           page_says v b ss f g h.earlier h.later a p start size (said f g (Page p start size) a h) h.in_step
@@ -135,6 +136,15 @@ sat v b s shown answers =
       spares = λ p spare. ap (λ z. get_or z p Blank) (sym shown) ∙ spared v b p Blank (idle ss) s.calls spare;
       panels = sym many;
     }
+
+-- some order knows the bits: that of the prices that cast them, or any where there are none
+pub some_order : (bits : List Bool) (v : Result ℕ Refusal) → verdict bits ≡ v → (b : ℕ → ℕ → Bool) × Knows b (lots_by v) bits
+some_order bits (Ok n) e = let (few, (ps, c)) = (accepted_exactly_when_cast bits n).0 e in (beats dearer ps, (prices_strict ps, c.cast))
+some_order bits (Err e) h = (ltb, tt)
+
+-- every call of a sitting is answered
+pub all_answered : (v : Result ℕ Refusal) (b : ℕ → ℕ → Bool) (s : Sitting) → (shows v b (idle s.before) s.calls).answers ≡ s.answers → length s.answers ≡ length s.calls
+all_answered v b s answers = ap length (sym answers) ∙ shows_many v b (idle s.before) s.calls ∙ omega arith
 
 -- the verdict on the sheet of an order, and what a board that has taken it knows
 pub knows_sheet : (b : ℕ → ℕ → Bool) → Strict b → (n : ℕ) → n ≤ 4000 → (bits : List Bool) → sheet b n ≡ bits → (verdict bits ≡ Ok n) × Knows b (lots_by (verdict bits)) bits

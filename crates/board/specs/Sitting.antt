@@ -43,11 +43,10 @@ pub record Answers (s : Sitting) (f : List BoardCall) (c : BoardCall) (g : List 
   pub answers_are : s.answers ≡ earlier ++ a ∷ later
   pub in_step : length earlier ≡ length f
 
--- A sitting over a tape with the verdict v, for lots in the order b. Every call is answered. Every take answers as the verdict says. A page is refused with 11 before
+-- A sitting over a tape with the verdict v, for lots in the order b. Every take answers as the verdict says. A page is refused with 11 before
 -- the first take that is accepted, then exactly as 12 says; one that names no panel is answered as such. The last page on a panel shows there
 -- the best and the second of its range in the order b, or leaves it blank where it was refused. A panel with no page remains.
 pub record Sat (b : ℕ → ℕ → Bool) (v : Result ℕ Refusal) (s : Sitting) : Type 0 where
-  pub all : length s.answers ≡ length s.calls
   pub takes : (f g : List BoardCall) (a : Result BoardReply Refusal) → Answers s f Take g a → a ≡ take_answer v
   pub pages : (f g : List BoardCall) (p start size : ℕ) (a : Result BoardReply Refusal) → Answers s f (Page p start size) g a →
       a ≡ cond (nat_lt p (length s.shown)) (page_answer (page_reply (lots_after v f) start size)) (Err (refusal 0 []))

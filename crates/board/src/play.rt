@@ -1,7 +1,6 @@
 //! A whole list of takes and pages on a new board.
 
-ghost use Rattle.std.specs.Prelude.{◌≡◌, ℕ, ◌≤◌, Bool, [], map, length, is_ok, IfOk, Ok, vec_len, vec_capacity, OnErr};
-ghost use Rattle.answers.specs.Room.{roomy};
+ghost use Rattle.std.specs.Prelude.{◌≡◌, ℕ, ◌≤◌, Bool, [], map, length, IfOk, Ok, vec_capacity, OnErr};
 ghost use Rattle.leaders.specs.Order.{Strict};
 ghost use Rattle.leaders.specs.Sheet.{sheet};
 ghost use Rattle.leaders.specs.Refusal.{answered};
@@ -14,9 +13,9 @@ ghost use Rattle.board.specs.Sitting.{sitting, Sat};
 use crate::board::Board;
 use crate::call::{BoardCall, BoardReply, TurnFault};
 use crate::fault::BoardFault;
-use answers::{NoRoom, has_room};
 use bits::tape::Tape;
 use panel::Panel;
+use std::alloc::{AllocError, Global};
 
 /// What a take answers, as the answer to a call of a list.
 fn taken(reply: Result<u32, BoardFault>) -> Result<BoardReply, TurnFault>
@@ -74,20 +73,18 @@ pub fn play_into<T: Tape + Drop, D: Panel>(
     answers
 }
 
-/// The answers of a new board over the tape to the calls, in order, noted in a list that has room for them; without that nothing is played.
+/// The answers of a new board over the tape to the calls, in order. Want of memory for the answers is found before the first call.
 pub fn play_board<T: Tape + Drop, D: Panel>(
     tape: T,
     panels: &mut [D],
     calls: &[BoardCall],
-    answers: Vec<Result<BoardReply, TurnFault>>,
-) -> Result<Vec<Result<BoardReply, TurnFault>>, NoRoom>
-    ensures reply { is_ok result ≡ roomy (vec_len answers) (vec_capacity answers) (length calls.now) }
+    heap: Global,
+) -> Result<Vec<Result<BoardReply, TurnFault>>, AllocError>
     ensures sat { IfOk result (λ v. (b : ℕ → ℕ → Bool) → Knows b (lots_by (verdict (T.Tape.bits tape))) (T.Tape.bits tape) → Sat b (verdict (T.Tape.bits tape)) (sitting (map D.Panel.shows panels.old) calls.now (map (answered told) v.items) (map D.Panel.shows panels.new))) }
     ensures leads { IfOk result (λ v. (b : ℕ → ℕ → Bool) → Strict b → (n : ℕ) → n ≤ 4000 → sheet b n ≡ T.Tape.bits tape → Sat b (Ok n) (sitting (map D.Panel.shows panels.old) calls.now (map (answered told) v.items) (map D.Panel.shows panels.new))) }
+    ensures all { IfOk result (λ v. length v.items ≡ length calls.now) }
     ensures unplayed { OnErr result (panels.new ≡ panels.old) }
 {
-    if !has_room(&answers, calls.len()) {
-        return Err(NoRoom);
-    }
+    let answers = Vec::with_capacity(heap, calls.len())?;
     Ok(play_into(tape, panels, calls, answers))
 }

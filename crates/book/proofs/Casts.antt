@@ -9,20 +9,20 @@ use Rattle.book.specs.Entries.{sheet_of}
 use Rattle.book.proofs.Steps.{take_len}
 
 module _ {K : Type 0} (xs : List K) (count n : ℕ) (len : n ≡ length (take (min 4000 count) xs)) where
-  keys-are : take (n - 0) xs ≡ take (min 4000 count) xs
-  keys-are = take_len xs (min 4000 count) (n - 0) (omega arith)
+  keys_are : take (n - 0) xs ≡ take (min 4000 count) xs
+  keys_are = take_len xs (min 4000 count) (n - 0) (omega arith)
 
   pub few : n ≤ length xs
   few = omega (arith, length-take (min 4000 count) xs)
 
   pub counted : min (length (take (n - 0) xs)) 4000 ≡ length (take (min 4000 count) xs)
-  counted = omega (arith, ap length keys-are, length-take (min 4000 count) xs)
+  counted = omega (arith, ap length keys_are, length-take (min 4000 count) xs)
 
   pub cast_is : (ge : K → K → Bool) (room work : ℕ) (bs : List Bool) → let m = min (length (take (n - 0) xs)) 4000 in let ks = take (min 4000 count) xs in
       cast_sheet (sheet (beats ge (take (n - 0) xs)) m) m room work bs ≡ cast_sheet (sheet_of ge ks) (length ks) room work bs
   cast_is ge room work bs =
       ap (λ m. cast_sheet (sheet (beats ge (take (n - 0) xs)) m) m room work bs) counted
-      ∙ ap (λ zs. cast_sheet (sheet (beats ge zs) (length (take (min 4000 count) xs))) (length (take (min 4000 count) xs)) room work bs) keys-are
+      ∙ ap (λ zs. cast_sheet (sheet (beats ge zs) (length (take (min 4000 count) xs))) (length (take (min 4000 count) xs)) room work bs) keys_are
 
 no_spines : (b : ℕ → ℕ → Bool) → spines b 0 ≡ []
 unfolding spread

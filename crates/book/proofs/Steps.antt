@@ -15,11 +15,11 @@ module _ {K : Type 0} where
   same : {ks ls : List K} {m n : ℕ} → ks ≡ ls → m ≡ n → entry ks (Ok m) ≡ entry ls (Ok n)
   same e f = rw (e, f)
 
-  take-of-set : (n : ℕ) (xs : List K) (i : ℕ) (k : K) → take n (set xs i k) ≡ set (take n xs) i k
-  take-of-set zero xs i k = refl
-  take-of-set (suc n) [] i k = refl
-  take-of-set (suc n) (x ∷ xs) zero k = refl
-  take-of-set (suc n) (x ∷ xs) (suc i) k = ap (λ ys. x ∷ ys) (take-of-set n xs i k)
+  take_of_set : (n : ℕ) (xs : List K) (i : ℕ) (k : K) → take n (set xs i k) ≡ set (take n xs) i k
+  take_of_set zero xs i k = refl
+  take_of_set (suc n) [] i k = refl
+  take_of_set (suc n) (x ∷ xs) zero k = refl
+  take_of_set (suc n) (x ∷ xs) (suc i) k = ap (λ ys. x ∷ ys) (take_of_set n xs i k)
 
   -- the first m, where there are no more among the first n
   pub take_len : (xs : List K) (n m : ℕ) → m ≡ length (take n xs) → take m xs ≡ take n xs
@@ -52,4 +52,4 @@ module _ {K : Type 0} where
     pub new_key_put : (i : ℕ) (k : K) (o : Option K) → Some k ≡ o → 1 ≤ i → i ≤ n → ys ≡ set xs (i - 1) k → entry (take most ys) (Ok n) ≡ set_key (take most xs) i o
     new_key_put i k o e low high w =
         let test : is_lot i (length (take most xs)) ≡ true = is_lot_lem _ _ low (omega arith) in
-        rw (← e, w) (same (take-of-set most xs (i - 1) k) len ∙ sym (cond-true _ _ _ test))
+        rw (← e, w) (same (take_of_set most xs (i - 1) k) len ∙ sym (cond-true _ _ _ test))

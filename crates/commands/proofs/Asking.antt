@@ -27,76 +27,76 @@ module _ (arity : ℕ) (few : arity ≤ 4) where
   new_key_not (lot ∷ ns) fs p t = sym (cond-false _ _ _ (ap (λ z. eqb (length z) arity) (sym p) ∙ t))
 
   -- no command has more than five numbers
-  strike-many : (ns : List ℕ) → 5 < length ns → strike_by ns ≡ None
-  strike-many [] h = absurd (omega arith)
-  strike-many (a ∷ []) h = absurd (omega arith)
-  strike-many (a ∷ b ∷ ns) h = refl
+  strike_many : (ns : List ℕ) → 5 < length ns → strike_by ns ≡ None
+  strike_many [] h = absurd (omega arith)
+  strike_many (a ∷ []) h = absurd (omega arith)
+  strike_many (a ∷ b ∷ ns) h = refl
 
-  new-key-many : (ns : List ℕ) → 5 < length ns → new_key_by arity ns ≡ None
-  new-key-many [] h = refl
-  new-key-many (a ∷ ns) h = cond-false _ _ _ (ne_eqb (length ns) arity (λ e. omega arith))
+  new_key_many : (ns : List ℕ) → 5 < length ns → new_key_by arity ns ≡ None
+  new_key_many [] h = refl
+  new_key_many (a ∷ ns) h = cond-false _ _ _ (ne_eqb (length ns) arity (λ e. omega arith))
 
-  cast-many : (ns : List ℕ) → 5 < length ns → cast_by ns ≡ None
-  cast-many [] h = absurd (omega arith)
-  cast-many (a ∷ ns) h = refl
+  cast_many : (ns : List ℕ) → 5 < length ns → cast_by ns ≡ None
+  cast_many [] h = absurd (omega arith)
+  cast_many (a ∷ ns) h = refl
 
-  page-many : (ns : List ℕ) → 5 < length ns → page_by ns ≡ None
-  page-many [] h = absurd (omega arith)
-  page-many (a ∷ []) h = absurd (omega arith)
-  page-many (a ∷ b ∷ []) h = absurd (omega arith)
-  page-many (a ∷ b ∷ c ∷ ns) h = refl
+  page_many : (ns : List ℕ) → 5 < length ns → page_by ns ≡ None
+  page_many [] h = absurd (omega arith)
+  page_many (a ∷ []) h = absurd (omega arith)
+  page_many (a ∷ b ∷ []) h = absurd (omega arith)
+  page_many (a ∷ b ∷ c ∷ ns) h = refl
 
   neither : (t : Bool) (x y : Option Asked) → x ≡ None → y ≡ None → cond t x y ≡ None
   neither true x y e f = e
   neither false x y e f = f
 
-  asked-many : (letter : ℕ) (ns : List ℕ) → 5 < length ns → asked_by arity letter ns ≡ None
-  asked-many letter ns h =
+  asked_many : (letter : ℕ) (ns : List ℕ) → 5 < length ns → asked_by arity letter ns ≡ None
+  asked_many letter ns h =
       neither (eqb letter 97) _ _ (cond-false _ _ _ (ne_eqb (length ns) arity (λ e. omega arith)))
-      (neither (eqb letter 115) _ _ (strike-many ns h)
-      (neither (eqb letter 114) _ _ (new-key-many ns h)
-      (neither (eqb letter 99) _ _ (cast-many ns h)
-      (neither (eqb letter 112) _ _ (page-many ns h) refl))))
+      (neither (eqb letter 115) _ _ (strike_many ns h)
+      (neither (eqb letter 114) _ _ (new_key_many ns h)
+      (neither (eqb letter 99) _ _ (cast_many ns h)
+      (neither (eqb letter 112) _ _ (page_many ns h) refl))))
 
-  five-none : (letter : ℕ) (o : Option (List ℕ)) → None ≡ up_to_five o → asked_with arity letter o ≡ None
-  five-none letter None e = refl
-  five-none letter (Some ns) e =
+  five_none : (letter : ℕ) (o : Option (List ℕ)) → None ≡ up_to_five o → asked_with arity letter o ≡ None
+  five_none letter None e = refl
+  five_none letter (Some ns) e =
       ⊎_elim
-      (λ h. asked-many letter ns h)
+      (λ h. asked_many letter ns h)
       (λ h. absurd (let f : None ≡ Some ns = e ∙ cond-true _ _ _ (le-leb (length ns) 5 h) in let z : ◌≡◌ {A = ℕ} 0 1 = cc in omega arith))
       (cases_lt 5 (length ns))
 
-  some-cond : (t : Bool) (ns ms : List ℕ) → Some ns ≡ cond t (Some ms) None → ms ≡ ns
-  some-cond true ns ms e = cc
-  some-cond false ns ms e = absurd (let z : ◌≡◌ {A = ℕ} 0 1 = cc in omega arith)
+  some_cond : (t : Bool) (ns ms : List ℕ) → Some ns ≡ cond t (Some ms) None → ms ≡ ns
+  some_cond true ns ms e = cc
+  some_cond false ns ms e = absurd (let z : ◌≡◌ {A = ℕ} 0 1 = cc in omega arith)
 
-  five-some : (o : Option (List ℕ)) (ns : List ℕ) → Some ns ≡ up_to_five o → o ≡ Some ns
-  five-some None ns e = absurd (let z : ◌≡◌ {A = ℕ} 0 1 = cc in omega arith)
-  five-some (Some ms) ns e = ap Some (some-cond (leb (length ms) 5) ns ms e)
+  five_some : (o : Option (List ℕ)) (ns : List ℕ) → Some ns ≡ up_to_five o → o ≡ Some ns
+  five_some None ns e = absurd (let z : ◌≡◌ {A = ℕ} 0 1 = cc in omega arith)
+  five_some (Some ms) ns e = ap Some (some_cond (leb (length ms) 5) ns ms e)
 
   -- a line that is malformed, and one that is not
-  not-one : (head : List ℕ) (more : List (List ℕ)) → (length head ≡ 1 → ⊥) → asked_in arity (head ∷ more) ≡ None
-  not-one [] more h = refl
-  not-one (a ∷ []) more h = absurd (h refl)
-  not-one (a ∷ b ∷ bs) more h = refl
+  not_one : (head : List ℕ) (more : List (List ℕ)) → (length head ≡ 1 → ⊥) → asked_in arity (head ∷ more) ≡ None
+  not_one [] more h = refl
+  not_one (a ∷ []) more h = absurd (h refl)
+  not_one (a ∷ b ∷ bs) more h = refl
 
-  take-one : (line : List ℕ) → 1 ≤ length line → take 1 line ≡ get_or line 0 0 ∷ []
-  take-one [] h = absurd (omega arith)
-  take-one (b ∷ bs) h = refl
+  take_one : (line : List ℕ) → 1 ≤ length line → take 1 line ≡ get_or line 0 0 ∷ []
+  take_one [] h = absurd (omega arith)
+  take_one (b ∷ bs) h = refl
 
   module _ (line : List ℕ) (end : ℕ) (found : end ≡ place line 44) (within : end ≤ length line) where
     pub no_letter : (end ≡ 1 → ⊥) → None ≡ asked_of arity line
     no_letter h =
         let (more, e) = field_first line end found in
         let len : length (take end line) ≡ end = length-take-le end line within in
-        sym (neither (leb (length line) 64) _ _ (ap (asked_in arity) e ∙ not-one (take end line) more (λ k. h (sym len ∙ k))) refl)
+        sym (neither (leb (length line) 64) _ _ (ap (asked_in arity) e ∙ not_one (take end line) more (λ k. h (sym len ∙ k))) refl)
 
     module _ (one : end ≡ 1) (short : length line ≤ 64) where
       pub letter_alone : length line < 2 → asked_by arity (get_or line 0 0) [] ≡ asked_of arity line
       unfolding numbers_in
       letter_alone h =
           let all : take 1 line ≡ line = take_all 1 line (omega arith) in
-          let e : fields line ≡ (get_or line 0 0 ∷ []) ∷ [] = part_whole 44 line (omega arith) ∙ ap (λ z. z ∷ []) (sym all ∙ take-one line (omega arith)) in
+          let e : fields line ≡ (get_or line 0 0 ∷ []) ∷ [] = part_whole 44 line (omega arith) ∙ ap (λ z. z ∷ []) (sym all ∙ take_one line (omega arith)) in
           sym (cond-true _ _ _ (le-leb (length line) 64 short) ∙ ap (asked_in arity) e)
 
       module _ (rest : List ℕ) (long : 2 ≤ length line) (cut : rest ≡ drop 2 line) where
@@ -105,11 +105,11 @@ module _ (arity : ℕ) (few : arity ≤ 4) where
             let p : place line 44 ≡ 1 = sym found ∙ one in
             let q : place line 44 + 1 ≡ 2 = omega arith in
             let e : fields line ≡ (get_or line 0 0 ∷ []) ∷ fields rest =
-            part_at ([] ∷ []) 44 line (omega arith) ∙ ap (λ k. take k line ∷ fields (drop (place line 44 + 1) line)) p ∙ ap (λ k. take 1 line ∷ fields (drop k line)) q ∙ ap (λ z. z ∷ fields (drop 2 line)) (take-one line (omega arith)) ∙ ap (λ z. (get_or line 0 0 ∷ []) ∷ fields z) (sym cut) in
+            part_at ([] ∷ []) 44 line (omega arith) ∙ ap (λ k. take k line ∷ fields (drop (place line 44 + 1) line)) p ∙ ap (λ k. take 1 line ∷ fields (drop k line)) q ∙ ap (λ z. z ∷ fields (drop 2 line)) (take_one line (omega arith)) ∙ ap (λ z. (get_or line 0 0 ∷ []) ∷ fields z) (sym cut) in
             cond-true _ _ _ (le-leb (length line) 64 short) ∙ ap (asked_in arity) e
 
         pub letter_bad : None ≡ up_to_five (numbers_in (fields rest)) → None ≡ asked_of arity line
-        letter_bad e = sym (asked_is ∙ five-none (get_or line 0 0) (numbers_in (fields rest)) e)
+        letter_bad e = sym (asked_is ∙ five_none (get_or line 0 0) (numbers_in (fields rest)) e)
 
         pub letter_good : (ns : List ℕ) → Some ns ≡ up_to_five (numbers_in (fields rest)) → asked_by arity (get_or line 0 0) ns ≡ asked_of arity line
-        letter_good ns e = sym (asked_is ∙ ap (asked_with arity (get_or line 0 0)) (five-some (numbers_in (fields rest)) ns e))
+        letter_good ns e = sym (asked_is ∙ ap (asked_with arity (get_or line 0 0)) (five_some (numbers_in (fields rest)) ns e))

@@ -30,10 +30,10 @@ module _ {K : Type 0} (at_least : K → K → Bool) (ks ls : List K) (shown : Op
   book_turned e reply is = record { lots_are = ap (λ (z : Entry K). z.lots) is; stands = stands }
 
   -- a cast stands for the lots as they are now, or nothing changes
-  cast-stands : length ks ≤ 4000 → (t u : Bool) (p q : Refusal) (n : ℕ) → let c = cond t (casting bits (Err p)) (cond u (casting bits (Err q)) (casting (sheet_of at_least ks) (Ok n))) in Stands at_least (cast_shown (hall ks shown) c.reply).shown c.bits
-  cast-stands few true u p q n = stands
-  cast-stands few false true p q n = stands
-  cast-stands few false false p q n = record { sheet_is = refl; few = λ zs e. let same : ks ≡ zs = cc in subst (λ (z : List K). length z ≤ 4000) same few }
+  cast_stands : length ks ≤ 4000 → (t u : Bool) (p q : Refusal) (n : ℕ) → let c = cond t (casting bits (Err p)) (cond u (casting bits (Err q)) (casting (sheet_of at_least ks) (Ok n))) in Stands at_least (cast_shown (hall ks shown) c.reply).shown c.bits
+  cast_stands few true u p q n = stands
+  cast_stands few false true p q n = stands
+  cast_stands few false false p q n = record { sheet_is = refl; few = λ zs e. let same : ks ≡ zs = cc in subst (λ (z : List K). length z ≤ 4000) same few }
 
   module _ (room work : ℕ) where
     cast_same : cast_sheet (sheet_of at_least ks) (length ks) room work bits ≡ cast_sheet (sheet_of at_least ks) (length ks) room work (shown_bits at_least shown)
@@ -42,7 +42,7 @@ module _ {K : Type 0} (at_least : K → K → Bool) (ks ls : List K) (shown : Op
     pub cast_turned : length ks ≤ 4000 → ls ≡ ks → (new : List Bool) → new ≡ (cast_sheet (sheet_of at_least ks) (length ks) room work bits).bits → Turned at_least (cast_turn (hall ks shown) (cast_sheet (sheet_of at_least ks) (length ks) room work (shown_bits at_least shown))) ls new
     cast_turned few is new w =
         let c : Casting = cast_sheet (sheet_of at_least ks) (length ks) room work bits in
-        let st : Stands at_least (cast_shown (hall ks shown) c.reply).shown c.bits = cast-stands few (ltb work (4 * suc (length ks))) (ltb room (length (sheet_of at_least ks))) (refusal 5 []) (refusal 6 (length (sheet_of at_least ks) ∷ [])) (length (sheet_of at_least ks)) in
+        let st : Stands at_least (cast_shown (hall ks shown) c.reply).shown c.bits = cast_stands few (ltb work (4 * suc (length ks))) (ltb room (length (sheet_of at_least ks))) (refusal 5 []) (refusal 6 (length (sheet_of at_least ks) ∷ [])) (length (sheet_of at_least ks)) in
         subst (λ (z : Casting). Turned at_least (cast_turn (hall ks shown) z) ls new) cast_same (record {
           lots_are = is ∙ sym (cast_lots ks shown c.reply);
           stands = subst (λ (z : List Bool). Stands at_least (cast_shown (hall ks shown) c.reply).shown z) (sym w) st;

@@ -117,10 +117,14 @@ pub record Turned {K : Type 0} (at_least : K → K → Bool) (t : Turn K) (ks : 
 abbrev pub CastsFit : {K : Type 0} → (K → K → Bool) → Type 0
 CastsFit {K} at_least = (ks : List K) (bits : List Bool) → length ks ≤ 4000 → cast_sheet (sheet_of at_least ks) (length ks) 14000 16004 bits ≡ casting (sheet_of at_least ks) (Ok (length (sheet_of at_least ks)))
 
--- A hall h has answered the first line of a text, and `rest` has the others: book, punch and what is written are as that turn says, and the replies that were owed to the text are this one and then those owed to the rest.
+-- A hall h has answered the first line of a text: book, punch and what is written are as that turn says, and the replies that were owed to the text are this one and then those owed to the rest.
 pub record Next {K : Type 0} (t : Terms K) (h : Hall K) (text rest : List ℕ) (ks : List K) (bits : List Bool) (before after : List ℕ) : Type 0 where
   pub line : List ℕ
-  pub first : lines text ≡ line ∷ lines rest
   pub turned : Turned t.at_least (line_turn t h line) ks bits
   pub replied : after ≡ before ++ (line_turn t h line).reply
   pub owed : replies t h (lines text) ≡ (line_turn t h line).reply ++ replies t (line_turn t h line).after (lines rest)
+
+-- The line that a hall has answered so is the first of the text.
+pub record FirstNext {K : Type 0} (t : Terms K) (h : Hall K) (text rest : List ℕ) (ks : List K) (bits : List Bool) (before after : List ℕ) : Type 0 where
+  pub next : Next t h text rest ks bits before after
+  pub first : lines text ≡ next.line ∷ lines rest

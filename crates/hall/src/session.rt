@@ -4,7 +4,7 @@ ghost use Rattle.std.specs.Prelude.{◌≡◌, ◌<◌, List, [], length, drop, 
 ghost use Rattle.bits.specs.Punching.{letters, letter_room};
 ghost use Rattle.book.specs.Entries.{room_for};
 ghost use Rattle.book.specs.Held.{keys_in};
-ghost use Rattle.hall.specs.Halls.{terms, program_terms, hall, all_replies, Stands, Next};
+ghost use Rattle.hall.specs.Halls.{terms, program_terms, hall, all_replies, Stands, Next, FirstNext};
 
 use crate::answer::answer_line;
 use bits::punch::LetteredPunch;
@@ -24,6 +24,7 @@ pub fn answer_next<'t, K: Key + Copy>(
     ensures shorter { IfOk result (λ o. MatchOption o ((text.now ≡ []) × (out.new.items ≡ out.old.items)) (λ rest. length rest.now < length text.now)) }
     ensures ended { IfOk result (λ o. MatchOption o ((keys_in book.new ≡ keys_in book.old) × (letters punch.new.text.now punch.new.count ≡ letters punch.old.text.now punch.old.count) × (work.new ≡ work.old)) (λ _. Unit)) }
     ensures next { (shown : Option (List K)) → Stands K.Key.at_least shown (letters punch.old.text.now punch.old.count) → IfOk result (λ o. MatchOption o Unit (λ rest. Next (terms K.Key.made K.Key.at_least K.Key.arity (room_for (length book.old.list.now)) (letter_room punch.old.text.now) (length work.old)) (hall (keys_in book.old) shown) text.now rest.now (keys_in book.new) (letters punch.new.text.now punch.new.count) out.old.items out.new.items)) }
+    ensures first { (shown : Option (List K)) → Stands K.Key.at_least shown (letters punch.old.text.now punch.old.count) → IfOk result (λ o. MatchOption o Unit (λ rest. FirstNext (terms K.Key.made K.Key.at_least K.Key.arity (room_for (length book.old.list.now)) (letter_room punch.old.text.now) (length work.old)) (hall (keys_in book.old) shown) text.now rest.now (keys_in book.new) (letters punch.new.text.now punch.new.count) out.old.items out.new.items)) }
     ensures room { letter_room punch.new.text.now ≡ letter_room punch.old.text.now }
     ensures home { punch.new.text.ghost_name ≡ punch.old.text.ghost_name }
     ensures rest { drop 16004 work.new ≡ drop 16004 work.old }

@@ -1,4 +1,4 @@
-//! What C can call: three functions on packed bytes, without heap or state.
+//! What C is offered: three functions on packed bytes, without heap or state. The crate `host_c` exports them.
 
 ghost use Rattle.std.specs.Prelude.{◌≡◌};
 ghost use Rattle.leaders.specs.Verdict.{verdict};
@@ -22,8 +22,7 @@ fn page_of(bytes: &[u8], bits: usize, start: u32, size: u32) -> Shown
 }
 
 /// Whether the first bits of the bytes are a sheet: 0, or the number of the refusal.
-#[unsafe(no_mangle)]
-pub extern "C" fn leading_pair_take(bytes: &[u8], bits: usize) -> u32
+pub fn leading_pair_take(bytes: &[u8], bits: usize) -> u32
     ensures { result ≡ refusal_number (verdict (packed bytes.now bits)) }
 {
     let mut board = Board::new(PackedTape { bytes, count: bits });
@@ -34,8 +33,7 @@ pub extern "C" fn leading_pair_take(bytes: &[u8], bits: usize) -> u32
 }
 
 /// The best lot of a page of the sheet, or 0 where take or page is refused.
-#[unsafe(no_mangle)]
-pub extern "C" fn leading_pair_best(bytes: &[u8], bits: usize, start: u32, size: u32) -> u32
+pub fn leading_pair_best(bytes: &[u8], bits: usize, start: u32, size: u32) -> u32
     ensures { Reads best_shown (packed bytes.now bits) start size result }
 {
     match page_of(bytes, bits, start, size) {
@@ -46,8 +44,7 @@ pub extern "C" fn leading_pair_best(bytes: &[u8], bits: usize, start: u32, size:
 }
 
 /// The second lot of a page of the sheet, or 0 where there is none, and where take or page is refused.
-#[unsafe(no_mangle)]
-pub extern "C" fn leading_pair_second(bytes: &[u8], bits: usize, start: u32, size: u32) -> u32
+pub fn leading_pair_second(bytes: &[u8], bits: usize, start: u32, size: u32) -> u32
     ensures { Reads second_shown (packed bytes.now bits) start size result }
 {
     match page_of(bytes, bits, start, size) {

@@ -32,10 +32,14 @@ fn wrong_counts(rt: HostRuntime) {
     assert!(rt; ClipRow::from_fields(&[]).is_none());
     assert!(rt; ClipRow::from_fields(&[200, 1]).is_none());
     assert!(rt; ClipRow::from_fields(&[200, 1, 1, 1]).is_none());
-    assert_eq!(rt; Price::FIELDS, Price::count());
-    assert_eq!(rt; ClipRow::FIELDS, ClipRow::count());
     assert!(rt; has_count::<Price>(&[7]));
     assert!(rt; !has_count::<ClipRow>(&[7]));
+}
+
+#[test]
+fn counts_are_fields(rt: HostRuntime) {
+    assert_eq!(rt; Price::FIELDS, Price::count());
+    assert_eq!(rt; ClipRow::FIELDS, ClipRow::count());
 }
 
 #[test]

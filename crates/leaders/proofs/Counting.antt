@@ -82,11 +82,11 @@ module _ (b : ℕ → ℕ → Bool) (s : Strict b) where
   unfolding parent
   parent_is k = highest_is b k (k - 1)
 
-  parent-less : (k : ℕ) → 1 ≤ k → parent b k < k
-  parent-less k h = omega (arith, (parent_is k).upto)
+  parent_less : (k : ℕ) → 1 ≤ k → parent b k < k
+  parent_less k h = omega (arith, (parent_is k).upto)
 
-  parent-beats : (k : ℕ) → 1 ≤ parent b k → b (parent b k) k ≡ true
-  parent-beats k h = elim (parent_is k).beats [ inl e ↦ absurd (omega arith) | inr e ↦ e ]
+  parent_beats : (k : ℕ) → 1 ≤ parent b k → b (parent b k) k ≡ true
+  parent_beats k h = elim (parent_is k).beats [ inl e ↦ absurd (omega arith) | inr e ↦ e ]
 
   -- a lot beats the lots between its parent and itself
   between : (k m : ℕ) → parent b k < m → m < k → b k m ≡ true
@@ -96,15 +96,15 @@ module _ (b : ℕ → ℕ → Bool) (s : Strict b) where
   ancestors : ℕ → ℕ
   ancestors k = tally (λ i. is_best b i k i) 1 k
 
-  best-not : (i j k : ℕ) → (Best b i j k → ⊥) → is_best b i j k ≡ false
-  best-not i j k h = elim (cases_Bool (is_best b i j k)) [ inl e ↦ absurd (h (best_from_test b i j k e)) | inr e ↦ e ]
+  best_not : (i j k : ℕ) → (Best b i j k → ⊥) → is_best b i j k ≡ false
+  best_not i j k h = elim (cases_Bool (is_best b i j k)) [ inl e ↦ absurd (h (best_from_test b i j k e)) | inr e ↦ e ]
 
-  best-alone : (k : ℕ) → is_best b k k k ≡ true
-  best-alone k = test_from_best b k k k (record { from = omega arith; upto = omega arith; over = λ m u v d. absurd (d (omega arith)) })
+  best_alone : (k : ℕ) → is_best b k k k ≡ true
+  best_alone k = test_from_best b k k k (record { from = omega arith; upto = omega arith; over = λ m u v d. absurd (d (omega arith)) })
 
   -- the lots that are best up to k are those that stay so, and those of L(k + 1)
-  kept-or-left : (k i : ℕ) → 1 ≤ i → i ≤ k → one (is_best b i k i) ≡ one (in_l b (suc k) i) + one (is_best b i (suc k) i)
-  kept-or-left k i h g = elim (cases_Bool (is_best b i k i)) [
+  kept_or_left : (k i : ℕ) → 1 ≤ i → i ≤ k → one (is_best b i k i) ≡ one (in_l b (suc k) i) + one (is_best b i (suc k) i)
+  kept_or_left k i h g = elim (cases_Bool (is_best b i k i)) [
     | inl e ↦ elim (cases_Bool (b i (suc k))) [
       | inl f ↦ stays (best_from_test b i k i e) f
       | inr f ↦ leaves (best_from_test b i k i e) (s.total i (suc k) (omega arith) f)
@@ -131,7 +131,7 @@ module _ (b : ℕ → ℕ → Bool) (s : Strict b) where
 
       leaves : Best b i k i → b (suc k) i ≡ true → one (is_best b i k i) ≡ one (in_l b (suc k) i) + one (is_best b i (suc k) i)
       leaves h f =
-          let p = best-not i (suc k) i (λ a. asym b s (suc k) i f (a.over (suc k) (omega arith) (omega arith) (omega arith))) in
+          let p = best_not i (suc k) i (λ a. asym b s (suc k) i f (a.over (suc k) (omega arith) (omega arith) (omega arith))) in
           let q = test_from_L b (suc k) i (record {
             less = omega arith;
             over = record { from = omega arith; upto = omega arith; over = λ m u v d. elim (cases_eq m i) [ inl q ↦ rw q f | inr q ↦ s.transitive (suc k) i m f (h.over m u (omega arith) q) ] };
@@ -143,59 +143,59 @@ module _ (b : ℕ → ℕ → Bool) (s : Strict b) where
       never : is_best b i k i ≡ false → one (is_best b i k i) ≡ one (in_l b (suc k) i) + one (is_best b i (suc k) i)
       never e =
           let clash : Best b i k i → ⊥ = λ h. let r = test_from_best b i k i h in let z : ◌≡◌ {A = ℕ} 0 1 = cc in omega arith in
-          let p = best-not i (suc k) i (λ a. clash (record { from = omega arith; upto = omega arith; over = λ m u v d. a.over m u (omega arith) d })) in
+          let p = best_not i (suc k) i (λ a. clash (record { from = omega arith; upto = omega arith; over = λ m u v d. a.over m u (omega arith) d })) in
           let q = not_left (λ l. clash (subst (λ j. Best b i j i) low l.next)) in
           rw (p, q, e)
 
-  lefts-step : (n k : ℕ) → suc k ≤ n → lefts b n (suc k) + ancestors (suc k) ≡ 1 + ancestors k
+  lefts_step : (n k : ℕ) → suc k ≤ n → lefts b n (suc k) + ancestors (suc k) ≡ 1 + ancestors k
   unfolding ancestors
-  lefts-step n k h =
+  lefts_step n k h =
       let e : k + (n - k) ≡ n = omega arith in
       let cut : lefts b n (suc k) ≡ tally (in_l b (suc k)) 1 k =
       ap (tally (in_l b (suc k)) 1) (sym e) ∙ tally_split (in_l b (suc k)) 1 k (n - k)
       ∙ omega (arith, tally_none (in_l b (suc k)) (1 + k) (n - k) (λ m u v. elim (cases_Bool (in_l b (suc k) m)) [ inl g ↦ absurd (omega (arith, (LFromTest b (suc k) m g).less)) | inr g ↦ g ])) in
-      let both = tally_add (in_l b (suc k)) (λ i. is_best b i (suc k) i) (λ i. is_best b i k i) 1 k (λ m u v. kept-or-left k m u (omega arith)) in
+      let both = tally_add (in_l b (suc k)) (λ i. is_best b i (suc k) i) (λ i. is_best b i k i) 1 k (λ m u v. kept_or_left k m u (omega arith)) in
       let last = tally_last (λ i. is_best b i (suc k) i) 1 k in
-      let itself : is_best b (1 + k) (suc k) (1 + k) ≡ true = ap (λ z. is_best b z (suc k) z) (let g : 1 + k ≡ suc k = omega arith in g) ∙ best-alone (suc k) in
+      let itself : is_best b (1 + k) (suc k) (1 + k) ≡ true = ap (λ z. is_best b z (suc k) z) (let g : 1 + k ≡ suc k = omega arith in g) ∙ best_alone (suc k) in
       omega (arith, cut, both, last, ap one itself)
 
-  lefts-total : (n m : ℕ) → m ≤ n → total (lefts b n) 1 m + ancestors m ≡ m
+  lefts_total : (n m : ℕ) → m ≤ n → total (lefts b n) 1 m + ancestors m ≡ m
   unfolding total ancestors tally
-  lefts-total n zero h = refl
-  lefts-total n (suc m) h =
+  lefts_total n zero h = refl
+  lefts_total n (suc m) h =
       let e : 1 + m ≡ suc m = omega arith in
-      omega (arith, total_last (lefts b n) 1 m, lefts-total n m (omega arith), lefts-step n m h, ap (lefts b n) e)
+      omega (arith, total_last (lefts b n) 1 m, lefts_total n m (omega arith), lefts_step n m h, ap (lefts b n) e)
 
   -- a lot's ancestors are itself and those of its parent
-  ancestors-up : (k : ℕ) → 1 ≤ k → ancestors k ≡ 1 + ancestors (parent b k)
+  ancestors_up : (k : ℕ) → 1 ≤ k → ancestors k ≡ 1 + ancestors (parent b k)
   unfolding ancestors
-  ancestors-up k h =
+  ancestors_up k h =
       let p = parent b k in
       let f : ℕ → Bool = λ i. is_best b i k i in
       let q = k - p - 1 in
-      let below = parent-less k h in
+      let below = parent_less k h in
       let e : p + suc q ≡ k = omega arith in
-      let same = tally_same f (λ i. is_best b i p i) 1 p (λ m u v. upto-parent m u (omega arith)) in
-      let none = tally_none f (1 + p) q (λ m u v. best-not m k m (λ a. let x = a.over k (omega arith) (omega arith) (omega arith) in let y = between k m (omega arith) (omega arith) in asym b s m k x y)) in
-      let itself : f (1 + p + q) ≡ true = ap f (let g : 1 + p + q ≡ k = omega arith in g) ∙ best-alone k in
+      let same = tally_same f (λ i. is_best b i p i) 1 p (λ m u v. upto_parent m u (omega arith)) in
+      let none = tally_none f (1 + p) q (λ m u v. best_not m k m (λ a. let x = a.over k (omega arith) (omega arith) (omega arith) in let y = between k m (omega arith) (omega arith) in asym b s m k x y)) in
+      let itself : f (1 + p + q) ≡ true = ap f (let g : 1 + p + q ≡ k = omega arith in g) ∙ best_alone k in
       ap (tally f 1) (sym e) ∙ tally_split f 1 p (suc q) ∙ omega (arith, same, tally_last f (1 + p) q, none, ap one itself)
     where
       p : ℕ
       p = parent b k
 
-      upto-parent : (i : ℕ) → 1 ≤ i → i ≤ parent b k → is_best b i k i ≡ is_best b i (parent b k) i
-      upto-parent i u v = elim (cases_Bool (is_best b i (parent b k) i)) [
+      upto_parent : (i : ℕ) → 1 ≤ i → i ≤ parent b k → is_best b i k i ≡ is_best b i (parent b k) i
+      upto_parent i u v = elim (cases_Bool (is_best b i (parent b k) i)) [
         | inl e ↦ test_from_best b i k i (longer (best_from_test b i (parent b k) i e)) ∙ sym e
-        | inr e ↦ best-not i k i (λ a. shorter e a) ∙ sym e
+        | inr e ↦ best_not i k i (λ a. shorter e a) ∙ sym e
       ]
         where
           below : parent b k < k
-          below = parent-less k h
+          below = parent_less k h
 
-          over-k : Best b i (parent b k) i → b i k ≡ true
-          over-k a = elim (cases_eq i (parent b k)) [
-            | inl e ↦ rw e (parent-beats k (omega arith))
-            | inr e ↦ s.transitive i (parent b k) k (a.over (parent b k) v (omega arith) (λ z. e (sym z))) (parent-beats k (omega arith))
+          over_k : Best b i (parent b k) i → b i k ≡ true
+          over_k a = elim (cases_eq i (parent b k)) [
+            | inl e ↦ rw e (parent_beats k (omega arith))
+            | inr e ↦ s.transitive i (parent b k) k (a.over (parent b k) v (omega arith) (λ z. e (sym z))) (parent_beats k (omega arith))
           ]
 
           longer : Best b i (parent b k) i → Best b i k i
@@ -203,7 +203,7 @@ module _ (b : ℕ → ℕ → Bool) (s : Strict b) where
             from = omega arith;
             upto = omega (arith, below);
             over = λ m x y d. elim (cases_lt (parent b k) m) [
-              | inl z ↦ elim (cases_eq m k) [ inl w ↦ rw w (over-k a) | inr w ↦ s.transitive i k m (over-k a) (between k m z (omega arith)) ]
+              | inl z ↦ elim (cases_eq m k) [ inl w ↦ rw w (over_k a) | inr w ↦ s.transitive i k m (over_k a) (between k m z (omega arith)) ]
               | inr z ↦ a.over m x z d
             ];
           }
@@ -213,23 +213,23 @@ module _ (b : ℕ → ℕ → Bool) (s : Strict b) where
               let r = test_from_best b i (parent b k) i (record { from = omega arith; upto = v; over = λ m x y d. a.over m x (omega (arith, below)) d }) in
               let z : ◌≡◌ {A = ℕ} 0 1 = cc in omega arith
 
-  path-length : (most k : ℕ) → k ≤ most → length (path_up b most k) ≡ ancestors k
+  path_length : (most k : ℕ) → k ≤ most → length (path_up b most k) ≡ ancestors k
   unfolding path_up ancestors tally
-  path-length zero zero h = refl
-  path-length zero (suc k) h = absurd (omega arith)
-  path-length (suc most) zero h = refl
-  path-length (suc most) (suc k) h =
-      let below = parent-less (suc k) (omega arith) in
-      ap suc (path-length most (parent b (suc k)) (omega arith)) ∙ omega (arith, ancestors-up (suc k) (omega arith))
+  path_length zero zero h = refl
+  path_length zero (suc k) h = absurd (omega arith)
+  path_length (suc most) zero h = refl
+  path_length (suc most) (suc k) h =
+      let below = parent_less (suc k) (omega arith) in
+      ap suc (path_length most (parent b (suc k)) (omega arith)) ∙ omega (arith, ancestors_up (suc k) (omega arith))
 
   -- right siblings along a path: the lots above k whose parents are below k
   beyond : ℕ → ℕ → ℕ
   beyond n k = tally (λ m. ltb k m && ltb (parent b m) k) 1 n
 
-  sibling-or-beyond : (k m : ℕ) → 1 ≤ k → 1 ≤ m →
+  sibling_or_beyond : (k m : ℕ) → 1 ≤ k → 1 ≤ m →
       one (ltb k m && ltb (parent b m) k) ≡ one (ltb k m && eqb (parent b m) (parent b k)) + one (ltb (parent b k) m && ltb (parent b m) (parent b k))
-  sibling-or-beyond k m h g =
-      let below = parent-less k h in
+  sibling_or_beyond k m h g =
+      let below = parent_less k h in
       elim (cases_lt k m) [
         | inl e ↦ elim (cases_order (parent b m) (parent b k)) [
           | inl f ↦ rw (lt-ltb k m e, eq-eqb (parent b m) (parent b k) f, lt-ltb (parent b k) m (omega arith), lt-ltb (parent b m) k (omega arith), le-ltb (parent b m) (parent b k) (omega arith))
@@ -237,7 +237,7 @@ module _ (b : ℕ → ℕ → Bool) (s : Strict b) where
           | inr (inr f) ↦
               let far : k ≤ parent b m = elim (cases_lt (parent b m) k) [
                 | inr z ↦ z
-                | inl z ↦ absurd (asym b s (parent b m) m (parent-beats m (omega arith)) (s.transitive m k (parent b m) (between m k z e) (between k (parent b m) f z)))
+                | inl z ↦ absurd (asym b s (parent b m) m (parent_beats m (omega arith)) (s.transitive m k (parent b m) (between m k z e) (between k (parent b m) f z)))
               ] in
               rw (lt-ltb k m e, ne_eqb (parent b m) (parent b k) (omega arith), lt-ltb (parent b k) m (omega arith), le-ltb (parent b m) k far, le-ltb (parent b m) (parent b k) (omega arith))
         ]
@@ -247,8 +247,8 @@ module _ (b : ℕ → ℕ → Bool) (s : Strict b) where
               let high : parent b k ≤ parent b m = elim (cases_lt (parent b m) (parent b k)) [
                 | inr z ↦ z
                 | inl z ↦
-                    let over-k = parent-beats k (omega arith) in
-                    let over-m : b (parent b k) m ≡ true = elim (cases_eq m k) [ inl w ↦ rw w over-k | inr w ↦ s.transitive (parent b k) k m over-k (between k m f (omega arith)) ] in
+                    let over_k = parent_beats k (omega arith) in
+                    let over-m : b (parent b k) m ≡ true = elim (cases_eq m k) [ inl w ↦ rw w over_k | inr w ↦ s.transitive (parent b k) k m over_k (between k m f (omega arith)) ] in
                     let not-over = (parent_is m).none (parent b k) z (omega arith) in
                     absurd (let y : ◌≡◌ {A = ℕ} 0 1 = cc in omega arith)
               ] in
@@ -256,26 +256,26 @@ module _ (b : ℕ → ℕ → Bool) (s : Strict b) where
         ]
       ]
 
-  siblings-are : (n most k : ℕ) → k ≤ most → siblings_of b n (path_up b most k) ≡ beyond n k
+  siblings_are : (n most k : ℕ) → k ≤ most → siblings_of b n (path_up b most k) ≡ beyond n k
   unfolding path_up siblings_of beyond
-  siblings-are n zero zero h = sym (tally_none (λ m. ltb 0 m && ltb (parent b m) 0) 1 n (λ m u v. grind (arith, nat_tests)))
-  siblings-are n zero (suc k) h = absurd (omega arith)
-  siblings-are n (suc most) zero h = sym (tally_none (λ m. ltb 0 m && ltb (parent b m) 0) 1 n (λ m u v. grind (arith, nat_tests)))
-  siblings-are n (suc most) (suc k) h =
-      let below = parent-less (suc k) (omega arith) in
+  siblings_are n zero zero h = sym (tally_none (λ m. ltb 0 m && ltb (parent b m) 0) 1 n (λ m u v. grind (arith, nat_tests)))
+  siblings_are n zero (suc k) h = absurd (omega arith)
+  siblings_are n (suc most) zero h = sym (tally_none (λ m. ltb 0 m && ltb (parent b m) 0) 1 n (λ m u v. grind (arith, nat_tests)))
+  siblings_are n (suc most) (suc k) h =
+      let below = parent_less (suc k) (omega arith) in
       let p = parent b (suc k) in
-      omega (arith, siblings-are n most p (omega arith), tally_add (λ m. ltb (suc k) m && eqb (parent b m) p) (λ m. ltb p m && ltb (parent b m) p) (λ m. ltb (suc k) m && ltb (parent b m) (suc k)) 1 n (λ m u v. sibling-or-beyond (suc k) m (omega arith) u))
+      omega (arith, siblings_are n most p (omega arith), tally_add (λ m. ltb (suc k) m && eqb (parent b m) p) (λ m. ltb p m && ltb (parent b m) p) (λ m. ltb (suc k) m && ltb (parent b m) (suc k)) 1 n (λ m u v. sibling_or_beyond (suc k) m (omega arith) u))
 
   -- children
-  children-below : (n k : ℕ) → total (children b n) 0 k ≡ tally (λ m. ltb (parent b m) k) 1 n
+  children_below : (n k : ℕ) → total (children b n) 0 k ≡ tally (λ m. ltb (parent b m) k) 1 n
   unfolding total children
-  children-below n zero = sym (tally_none (λ m. ltb (parent b m) 0) 1 n (λ m u v. grind (arith, nat_tests)))
-  children-below n (suc k) =
+  children_below n zero = sym (tally_none (λ m. ltb (parent b m) 0) 1 n (λ m u v. grind (arith, nat_tests)))
+  children_below n (suc k) =
       let e : 0 + k ≡ k = omega arith in
       omega (
         arith,
         total_last (children b n) 0 k,
-        children-below n k,
+        children_below n k,
         ap (children b n) e,
         tally_add (λ m. ltb (parent b m) k) (λ m. eqb (parent b m) k) (λ m. ltb (parent b m) (suc k)) 1 n (λ m u v. elim (cases_order (parent b m) k) [
           | inl f ↦ rw (lt-ltb (parent b m) (suc k) (omega arith), le-ltb (parent b m) k (omega arith), eq-eqb (parent b m) k f)
@@ -284,31 +284,31 @@ module _ (b : ℕ → ℕ → Bool) (s : Strict b) where
         ]),
       )
 
-  children-upto : (n k : ℕ) → k ≤ n → total (children b n) 0 k ≡ k + beyond n k
+  children_upto : (n k : ℕ) → k ≤ n → total (children b n) 0 k ≡ k + beyond n k
   unfolding beyond
-  children-upto n k h =
+  children_upto n k h =
       let g : ℕ → Bool = λ m. ltb k m && ltb (parent b m) k in
       let f : ℕ → Bool = λ m. ltb m (suc k) in
       let e : k + (n - k) ≡ n = omega arith in
       let first : tally f 1 n ≡ k =
       ap (tally f 1) (sym e) ∙ tally_split f 1 k (n - k)
       ∙ omega (arith, tally_all f 1 k (λ m u v. lt-ltb m (suc k) (omega arith)), tally_none f (1 + k) (n - k) (λ m u v. le-ltb m (suc k) (omega arith))) in
-      children-below n k ∙ omega (
+      children_below n k ∙ omega (
         arith,
         first,
         tally_add f g (λ m. ltb (parent b m) k) 1 n (λ m u v. elim (cases_lt k m) [
           | inl z ↦ rw (lt-ltb k m z, le-ltb m (suc k) (omega arith)) (grind (arith, nat_tests))
-          | inr z ↦ let below = parent-less m u in rw (le-ltb k m z, lt-ltb m (suc k) (omega arith), lt-ltb (parent b m) k (omega arith))
+          | inr z ↦ let below = parent_less m u in rw (le-ltb k m z, lt-ltb m (suc k) (omega arith), lt-ltb (parent b m) k (omega arith))
         ]),
       )
 
-  children-all : (n : ℕ) → total (children b n) 0 (suc n) ≡ n
-  children-all n = children-below n (suc n) ∙ tally_all (λ m. ltb (parent b m) (suc n)) 1 n (λ m u v. let below = parent-less m u in lt-ltb (parent b m) (suc n) (omega arith))
+  children_all : (n : ℕ) → total (children b n) 0 (suc n) ≡ n
+  children_all n = children_below n (suc n) ∙ tally_all (λ m. ltb (parent b m) (suc n)) 1 n (λ m u v. let below = parent_less m u in lt-ltb (parent b m) (suc n) (omega arith))
 
   -- spines
-  spine-length : (n k : ℕ) → 1 ≤ k → length (spine_of b n k) + 1 ≡ lefts b n k + children b n k + one (lone b n k)
+  spine_length : (n k : ℕ) → 1 ≤ k → length (spine_of b n k) + 1 ≡ lefts b n k + children b n k + one (lone b n k)
   unfolding full_word children
-  spine-length n k h =
+  spine_length n k h =
       let side : ℕ → Bool = λ i. in_l b k i || in_r b k i in
       let zs = ranked b side 1 n in
       let rights : tally (in_r b k) 1 n ≡ children b n k = tally_same (in_r b k) (λ j. eqb (parent b j) k) 1 n (λ m u v. r_is_children b s k m h u) in
@@ -330,22 +330,22 @@ module _ (b : ℕ → ℕ → Bool) (s : Strict b) where
       pick true e = omega arith
       pick false e = omega arith
 
-  spines-length : (n m : ℕ) → length (spread (spine_of b n) 1 m) + m ≡ total (lefts b n) 1 m + total (children b n) 1 m + tally (lone b n) 1 m
+  spines_length : (n m : ℕ) → length (spread (spine_of b n) 1 m) + m ≡ total (lefts b n) 1 m + total (children b n) 1 m + tally (lone b n) 1 m
   unfolding total tally
-  spines-length n m = ap (λ z. z + m) (spread_length (spine_of b n) 1 m) ∙ go m
+  spines_length n m = ap (λ z. z + m) (spread_length (spine_of b n) 1 m) ∙ go m
     where
       go : (m : ℕ) → total (λ q. length (spine_of b n q)) 1 m + m ≡ total (lefts b n) 1 m + total (children b n) 1 m + tally (lone b n) 1 m
       go zero = refl
       go (suc m) =
-          omega (arith, go m, total_last (λ q. length (spine_of b n q)) 1 m, total_last (lefts b n) 1 m, total_last (children b n) 1 m, tally_last (lone b n) 1 m, spine-length n (1 + m) (omega arith))
+          omega (arith, go m, total_last (λ q. length (spine_of b n q)) 1 m, total_last (lefts b n) 1 m, total_last (children b n) 1 m, tally_last (lone b n) 1 m, spine_length n (1 + m) (omega arith))
 
-  first-child : (n m : ℕ) → total (children b n) 0 (suc m) ≡ children b n 0 + total (children b n) 1 m
+  first_child : (n m : ℕ) → total (children b n) 0 (suc m) ≡ children b n 0 + total (children b n) 1 m
   unfolding total
-  first-child n m = refl
+  first_child n m = refl
 
-  brackets-length : (n : ℕ) → length (brackets b n) ≡ 2 * n + 2
+  brackets_length : (n : ℕ) → length (brackets b n) ≡ 2 * n + 2
   unfolding total
-  brackets-length n = omega (arith, spread_length (λ j. unary (children b n j)) 0 (suc n), go 0 (suc n), children-all n)
+  brackets_length n = omega (arith, spread_length (λ j. unary (children b n j)) 0 (suc n), go 0 (suc n), children_all n)
     where
       go : (i m : ℕ) → total (λ j. length (unary (children b n j))) i m ≡ m + total (children b n) i m
       go i zero = refl
@@ -353,22 +353,22 @@ module _ (b : ℕ → ℕ → Bool) (s : Strict b) where
 
 pub sheet_lengths : SheetLengths
 sheet_lengths b s n = record {
-  of_brackets = brackets-length b s n;
+  of_brackets = brackets_length b s n;
   of_spines = λ h.
-      omega (arith, spines-length b s n n, lefts-total b s n n (omega arith), first-child b s n n, children-all b s n, path-length b s n n (omega arith));
+      omega (arith, spines_length b s n n, lefts_total b s n n (omega arith), first_child b s n n, children_all b s n, path_length b s n n (omega arith));
   before_spine = λ k h g.
       let m = k - 1 in
       let e : suc m ≡ k = omega arith in
       omega (
         arith,
-        spines-length b s n m,
-        lefts-total b s n m (omega arith),
-        subst (λ z. lefts b n z + ancestors b s z ≡ 1 + ancestors b s m) e (lefts-step b s n m (omega arith)),
-        first-child b s n m,
-        subst (λ z. total (children b n) 0 z ≡ k + beyond b s n k) (sym e) (children-upto b s n k g),
-        path-length b s k k (omega arith),
-        siblings-are b s n k k (omega arith),
-        ancestors-up b s k h,
+        spines_length b s n m,
+        lefts_total b s n m (omega arith),
+        subst (λ z. lefts b n z + ancestors b s z ≡ 1 + ancestors b s m) e (lefts_step b s n m (omega arith)),
+        first_child b s n m,
+        subst (λ z. total (children b n) 0 z ≡ k + beyond b s n k) (sym e) (children_upto b s n k g),
+        path_length b s k k (omega arith),
+        siblings_are b s n k k (omega arith),
+        ancestors_up b s k h,
       );
   of_sheet = λ h.
       let (t, x, f) = has_a_tree b s 0 n in

@@ -123,8 +123,8 @@ module _ (a : ℕ → ℕ → Bool) (p : Strict a) where
       (λ e k. absurd k)
       (λ e k. through_before s xs h.1 (elim m [ inl g ↦ absurd (eqb-false x s e (sym g)) | inr g ↦ g ]) z k) k
 
-  part-before : (s : ℕ) (xs : List ℕ) → Sorted a xs → Mem s xs → (u v : ℕ) → Mem u (through s xs) → Mem v (past s xs) → a u v ≡ true
-  part-before s xs h m u v k g =
+  part_before : (s : ℕ) (xs : List ℕ) → Sorted a xs → Mem s xs → (u v : ℕ) → Mem u (through s xs) → Mem v (past s xs) → a u v ≡ true
+  part_before s xs h m u v k g =
       let x = through_before s xs h m u k in
       let y = past_after s xs h m v g in
       elim (cases_eq s u) [ inl e ↦ rw e at y | inr e ↦ p.transitive u s v (p.total s u e x) y ]
@@ -159,31 +159,31 @@ side_front : (a b : ℕ → ℕ → Bool) → Strict a → (s : ℕ) (ss xs : Li
 side_front a b p s ss xs h = sorted_along a b (through s xs) (through_sorted a s xs h.lots) (λ x y m n. h.keeps x y (through_in s xs x m) (through_in s xs y n))
 
 side_parts : (a b : ℕ → ℕ → Bool) → Strict a → (s : ℕ) (ss xs : List ℕ) → Side a b (s ∷ ss) xs → (x y : ℕ) → Mem x (through s xs) → Mem y (past s xs) → b x y ≡ true
-side_parts a b p s ss xs h x y m n = h.keeps x y (through_in s xs x m) (past_in s xs y n) (part-before a p s xs h.lots (h.has s (inl refl)) x y m n)
+side_parts a b p s ss xs h x y m n = h.keeps x y (through_in s xs x m) (past_in s xs y n) (part_before a p s xs h.lots (h.has s (inl refl)) x y m n)
 
 module _ (a c b : ℕ → ℕ → Bool) (p : Strict a) (q : Strict c) where
-  blend-sorted : (w : List Bool) (ss ts xs ys : List ℕ) → falses w ≡ length ss → trues w ≡ length ts → Side a b ss xs → Side c b ts ys →
+  blend_sorted : (w : List Bool) (ss ts xs ys : List ℕ) → falses w ≡ length ss → trues w ≡ length ts → Side a b ss xs → Side c b ts ys →
       ((x y : ℕ) → Mem x xs → Mem y ys → pos a w ss x ≤ pos c (turn w) ts y → b x y ≡ true) →
       ((y x : ℕ) → Mem y ys → Mem x xs → pos c (turn w) ts y < pos a w ss x → b y x ≡ true) → Sorted b (blend w ss ts xs ys)
   unfolding blend falses trues turn pos
-  blend-sorted [] ss ts xs ys d e h k f g =
+  blend_sorted [] ss ts xs ys d e h k f g =
       sorted_append b xs ys (sorted_along a b xs h.lots h.keeps) (sorted_along c b ys k.lots k.keeps) (λ x y m n. f x y m n (omega arith))
-  blend-sorted (false ∷ w) [] ts xs ys d e h k f g = absurd (omega arith)
-  blend-sorted (false ∷ w) (s ∷ ss) ts xs ys d e h k f g =
+  blend_sorted (false ∷ w) [] ts xs ys d e h k f g = absurd (omega arith)
+  blend_sorted (false ∷ w) (s ∷ ss) ts xs ys d e h k f g =
       let in-lots = h.has s (inl refl) in
       sorted_append b (through s xs) (blend w ss ts (past s xs) ys) (side_front a b p s ss xs h)
-      (blend-sorted w ss ts (past s xs) ys (omega arith) (omega arith) (side_past a b p s ss xs h) k
+      (blend_sorted w ss ts (past s xs) ys (omega arith) (omega arith) (side_past a b p s ss xs h) k
       (λ x y m n i. f x y (past_in s xs x m) n (omega (arith, pos_later a w s x ss (past_after a p s xs h.lots in-lots x m))))
       (λ y x n m i. g y x n (past_in s xs x m) (omega (arith, pos_later a w s x ss (past_after a p s xs h.lots in-lots x m)))))
       (λ x y m n. elim (blend_there w ss ts (past s xs) ys y n) [
         | inl i ↦ side_parts a b p s ss xs h x y m i
         | inr i ↦ f x y (through_in s xs x m) i (omega (arith, pos_none a w s x ss (through_before a p s xs h.lots in-lots x m)))
       ])
-  blend-sorted (true ∷ w) ss [] xs ys d e h k f g = absurd (omega arith)
-  blend-sorted (true ∷ w) ss (t ∷ ts) xs ys d e h k f g =
+  blend_sorted (true ∷ w) ss [] xs ys d e h k f g = absurd (omega arith)
+  blend_sorted (true ∷ w) ss (t ∷ ts) xs ys d e h k f g =
       let in-lots = k.has t (inl refl) in
       sorted_append b (through t ys) (blend w ss ts xs (past t ys)) (side_front c b q t ts ys k)
-      (blend-sorted w ss ts xs (past t ys) (omega arith) (omega arith) h (side_past c b q t ts ys k)
+      (blend_sorted w ss ts xs (past t ys) (omega arith) (omega arith) h (side_past c b q t ts ys k)
       (λ x y m n i. f x y m (past_in t ys y n) (omega (arith, pos_later c (turn w) t y ts (past_after c q t ys k.lots in-lots y n))))
       (λ y x n m i. g y x (past_in t ys y n) m (omega (arith, pos_later c (turn w) t y ts (past_after c q t ys k.lots in-lots y n)))))
       (λ y x n m. elim (blend_there w ss ts xs (past t ys) x m) [
@@ -211,7 +211,7 @@ list_follows_raw (node l w r) o v =
           order_follows a c p q o l r w v f g,
           (
             λ z m. order_root a c p q k w xs ys z (elim (blend_there w xs ys (list_of o l) (list_of k r) z m) [ inl h ↦ omega (arith, list_there o l z h) | inr h ↦ omega (arith, list_there k r z h) ]),
-            blend-sorted a c b p q w xs ys (list_of o l) (list_of k r) (v.0 ∙ sym (spine_r_length o l)) (v.1 ∙ sym (spine_l_length k r))
+            blend_sorted a c b p q w xs ys (list_of o l) (list_of k r) (v.0 ∙ sym (spine_r_length o l)) (v.1 ∙ sym (spine_l_length k r))
                 (record {
                   spine = spine_r_sorted a p o l f;
                   lots = s;

@@ -17,15 +17,15 @@ use Rattle.leaders.proofs.Strictly.{keys_order_lots}
 
 -- L(k) and R(k), from best to worst, are the spines beside k
 module _ (b : ℕ → ℕ → Bool) (s : Strict b) (n o : ℕ) (l : Tree) (w : List Bool) (r : Tree) (f : Follows b o (node l w r)) (c : Within b n o (node l w r)) where
-  lefts-are : ranked b (in_l b (root o l)) 1 n ≡ spine_r o l
-  lefts-are =
+  lefts_are : ranked b (in_l b (root o l)) 1 n ≡ spine_r o l
+  lefts_are =
       let k = root o l in
       sorted_one b s (ranked b (in_l b k) 1 n) (spine_r o l) (ranked_sorted b s (in_l b k) 1 n) (spine_r_sorted b s o l f.1)
       (λ z m. let h = ranked_there b (in_l b k) 1 n z m in left_there b s n o l w r f c z h.0 (LFromTest b k z h.2))
       (λ z m. let h = left_here b s n o l w r f c z m in ranked_here b (in_l b k) 1 n z h.0 (omega arith) h.2)
 
-  rights-are : ranked b (in_r b (root o l)) 1 n ≡ spine_l (root o l) r
-  rights-are =
+  rights_are : ranked b (in_r b (root o l)) 1 n ≡ spine_l (root o l) r
+  rights_are =
       let k = root o l in
       sorted_one b s (ranked b (in_r b k) 1 n) (spine_l k r) (ranked_sorted b s (in_r b k) 1 n) (spine_l_sorted b s k r f.2)
       (λ z m. let h = ranked_there b (in_r b k) 1 n z m in right_there b s n o l w r f c z (omega arith) (RFromTest b k z h.2))
@@ -53,7 +53,7 @@ merge_is b s n (suc depth) o (node l w r) f c h =
     let right = merge_is b s n depth k r f.2 (within_right b n o l w r f c) (omega arith) in
     merge_node b n depth (suc o) j k w (spine_r o l) (spine_l k r) (list_of o l) (list_of k r) (omega arith)
     (best_one b s (suc o) j (best b (suc o) j) k (best_is b s (suc o) j (omega arith)) f.0)
-    (full_word_lem b s n o l w r f c) (lefts-are b s n o l w r f c) (rights-are b s n o l w r f c)
+    (full_word_lem b s n o l w r f c) (lefts_are b s n o l w r f c) (rights_are b s n o l w r f c)
     (ap (merge_order b n depth (suc o)) (let e : k - 1 ≡ o + size l = omega arith in e) ∙ left)
     (ap (merge_order b n depth (suc k)) (let e : j ≡ k + size r = omega arith in e) ∙ right)
 
@@ -118,10 +118,10 @@ module _ (n : ℕ) (zs : List ℕ) (here : (x : ℕ) → 1 ≤ x → x ≤ n →
   abbrev prices : List ℕ
   prices = prices_of n zs 1 n
 
-  key-at : (i : ℕ) → 1 ≤ i → i ≤ n → key_of prices i ≡ Some (n - place zs i)
+  key_at : (i : ℕ) → 1 ≤ i → i ≤ n → key_of prices i ≡ Some (n - place zs i)
   unfolding key_of
-  key-at zero h g = absurd (omega arith)
-  key-at (suc i) h g = (prices_at n zs 1 n i (omega arith)).0 ∙ ap (λ z. Some (n - place zs z)) (let e : 1 + i ≡ suc i = omega arith in e)
+  key_at zero h g = absurd (omega arith)
+  key_at (suc i) h g = (prices_at n zs 1 n i (omega arith)).0 ∙ ap (λ z. Some (n - place zs z)) (let e : 1 + i ≡ suc i = omega arith in e)
 
   -- what is earlier in the list is dearer, and level prices go by the numbers
   same_way : (x y : ℕ) → 1 ≤ x → x ≤ n → 1 ≤ y → y ≤ n → earlier zs x y ≡ true → beats dearer prices x y ≡ true
@@ -129,7 +129,7 @@ module _ (n : ℕ) (zs : List ℕ) (here : (x : ℕ) → 1 ≤ x → x ≤ n →
   same_way x y h g p q e =
       let u = place_in zs x (here x h g) in
       let v = place_in zs y (here y p q) in
-      rw (key-at x h g, key-at y p q) (grind (arith, nat_tests))
+      rw (key_at x h g, key_at y p q) (grind (arith, nat_tests))
 
 agree_by : (b c : ℕ → ℕ → Bool) (n : ℕ) → ((x y : ℕ) → 1 ≤ x → x ≤ n → 1 ≤ y → y ≤ n → b x y ≡ true → c x y ≡ true) → Agree b c n
 agree_by b c n f = record {

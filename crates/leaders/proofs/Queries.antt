@@ -88,8 +88,8 @@ module _ (b : ℕ → ℕ → Bool) (s : Strict b) (o : ℕ) (l r : Tree) (w : L
     | inr (inr k) ↦ let (x, y, g, a) = cover_left b (root o l) r f.2 m (omega arith) (omega arith) in (x, inr (y, omega arith), a)
   ]
 
-  at-root : (m : ℕ) → i ≤ m → m ≤ j → m ≢ root o l → Candidate chosen × OrBeats b chosen m
-  at-root m c d e =
+  at_root : (m : ℕ) → i ≤ m → m ≤ j → m ≢ root o l → Candidate chosen × OrBeats b chosen m
+  at_root m c d e =
       let (z, g, a) = candidate m c d e in
       let (k, y) = scan_found b i j w (spine_r o l) (spine_l (root o l) r) f.3 (spine_r_sorted b s o l f.1) (spine_l_sorted b s (root o l) r f.2) z g in
       (k, or_beats b s chosen z m y a)
@@ -98,19 +98,19 @@ module _ (b : ℕ → ℕ → Bool) (s : Strict b) (o : ℕ) (l r : Tree) (w : L
   placed z (inl (m, c)) = let k = spine_r_in o l z m in omega arith
   placed z (inr (m, c)) = let k = spine_l_in (root o l) r z m in omega arith
 
-  some-other : (m : ℕ) × (i ≤ m) × (m ≤ j) × (m ≢ root o l)
-  some-other = elim (cases_lt i (root o l)) [ inl k ↦ (i, omega arith, omega arith, omega arith) | inr k ↦ (j, omega arith, omega arith, omega arith) ]
+  some_other : (m : ℕ) × (i ≤ m) × (m ≤ j) × (m ≢ root o l)
+  some_other = elim (cases_lt i (root o l)) [ inl k ↦ (i, omega arith, omega arith, omega arith) | inr k ↦ (j, omega arith, omega arith, omega arith) ]
 
-  second-at-root : Best b i j (root o l) → Second b i j (root o l) chosen
-  second-at-root best =
-      let (m, c, d, e) = some-other in
-      let k = placed chosen (at-root m c d e).0 in
+  second_at_root : Best b i j (root o l) → Second b i j (root o l) chosen
+  second_at_root best =
+      let (m, c, d, e) = some_other in
+      let k = placed chosen (at_root m c d e).0 in
       record {
         best = best;
         from = k.0;
         upto = k.1;
         other = k.2;
-        over = λ m c d e g. elim (at-root m c d e).1 [ inl x ↦ absurd (g x) | inr y ↦ y ];
+        over = λ m c d e g. elim (at_root m c d e).1 [ inl x ↦ absurd (g x) | inr y ↦ y ];
       }
 
 cond_two : (t : Bool) (x y x' y' : ℕ) (P : ℕ → ℕ → Type 0) → (t ≡ true → P x x') → (t ≡ false → P y y') → P (cond t x y) (cond t x' y')
@@ -126,4 +126,4 @@ second_is_found b s o (node l w r) f i j p q h =
     (λ e. cond_two (ltb (root o l) i) _ _ _ _ (Second b i j)
     (λ g. second_is_found b s (root o l) r f.2 i j (ltb-true (root o l) i g) q (omega arith))
     (λ g. let u = ltb-false (root o l) i g in let v = ltb-false j (root o l) e in
-    second-at-root b s o l r w f i j p q h u v (record { from = u; upto = v; over = λ m u v d. f.0.over m (omega arith) (omega arith) d })))
+    second_at_root b s o l r w f i j p q h u v (record { from = u; upto = v; over = λ m u v d. f.0.over m (omega arith) (omega arith) d })))

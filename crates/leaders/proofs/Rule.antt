@@ -99,8 +99,8 @@ module _ (b : ℕ → ℕ → Bool) (s : Strict b) (k a r : ℕ) (low : a < k) (
     higher = λ y m. h.higher y (inr m);
   }
 
-  none-lower : (zs : List ℕ) → Sides (a ∷ zs) → count isLower (a ∷ zs) ≡ 0
-  none-lower zs h = count_none isLower (a ∷ zs) (λ z m. elim m [
+  none_lower : (zs : List ℕ) → Sides (a ∷ zs) → count isLower (a ∷ zs) ≡ 0
+  none_lower zs h = count_none isLower (a ∷ zs) (λ z m. elim m [
     | inl e ↦ grind (arith, nat_tests)
     | inr n ↦ elim (cases_lt z k) [
       | inl g ↦ elim (cases_lt z a) [
@@ -111,8 +111,8 @@ module _ (b : ℕ → ℕ → Bool) (s : Strict b) (k a r : ℕ) (low : a < k) (
     ]
   ])
 
-  none-higher : (zs : List ℕ) → Sides (r ∷ zs) → count isHigher (r ∷ zs) ≡ 0
-  none-higher zs h = count_none isHigher (r ∷ zs) (λ z m. elim m [
+  none_higher : (zs : List ℕ) → Sides (r ∷ zs) → count isHigher (r ∷ zs) ≡ 0
+  none_higher zs h = count_none isHigher (r ∷ zs) (λ z m. elim m [
     | inl e ↦ grind (arith, nat_tests)
     | inr n ↦ elim (cases_lt k z) [
       | inl g ↦ elim (cases_lt r z) [
@@ -137,64 +137,64 @@ module _ (b : ℕ → ℕ → Bool) (s : Strict b) (k a r : ℕ) (low : a < k) (
   found (z ∷ y ∷ zs) h m n = elim (cases_lt z k) [
     | inl g ↦ elim (cases_eq z a) [
       | inl e ↦ first e
-      | inr e ↦ skip-lower (found (y ∷ zs) (rest z (y ∷ zs) h)) g e
+      | inr e ↦ skip_lower (found (y ∷ zs) (rest z (y ∷ zs) h)) g e
     ]
     | inr g ↦ elim (cases_eq z r) [
       | inl e ↦ second e
-      | inr e ↦ skip-higher (found (y ∷ zs) (rest z (y ∷ zs) h)) (let d = h.apart z (inl refl) in omega arith) e
+      | inr e ↦ skip_higher (found (y ∷ zs) (rest z (y ∷ zs) h)) (let d = h.apart z (inl refl) in omega arith) e
     ]
   ]
     where
-      other-r : z ≢ r → Mem r (y ∷ zs)
-      other-r d = elim n [ inl e ↦ absurd (d (sym e)) | inr e ↦ e ]
+      other_r : z ≢ r → Mem r (y ∷ zs)
+      other_r d = elim n [ inl e ↦ absurd (d (sym e)) | inr e ↦ e ]
 
-      other-a : z ≢ a → Mem a (y ∷ zs)
-      other-a d = elim m [ inl e ↦ absurd (d (sym e)) | inr e ↦ e ]
+      other_a : z ≢ a → Mem a (y ∷ zs)
+      other_a d = elim m [ inl e ↦ absurd (d (sym e)) | inr e ↦ e ]
 
       first : z ≡ a → Tells (z ∷ y ∷ zs)
       first e =
-          let none : count isLower (z ∷ y ∷ zs) ≡ 0 = ap (λ v. count isLower (v ∷ y ∷ zs)) e ∙ none-lower (y ∷ zs) (subst (λ v. Sides (v ∷ y ∷ zs)) e h) in
+          let none : count isLower (z ∷ y ∷ zs) ≡ 0 = ap (λ v. count isLower (v ∷ y ∷ zs)) e ∙ none_lower (y ∷ zs) (subst (λ v. Sides (v ∷ y ∷ zs)) e h) in
           head_lower (ltb k z) (word (y ∷ zs)) (count isLower (z ∷ y ∷ zs)) (count isHigher (z ∷ y ∷ zs)) (le-ltb k z (omega arith)) none
-          ∙ sym (ap (λ v. b v r) (sym e) ∙ h.sorted.0 r (other-r (omega arith)))
+          ∙ sym (ap (λ v. b v r) (sym e) ∙ h.sorted.0 r (other_r (omega arith)))
 
       second : z ≡ r → Tells (z ∷ y ∷ zs)
       second e =
-          let none : count isHigher (z ∷ y ∷ zs) ≡ 0 = ap (λ v. count isHigher (v ∷ y ∷ zs)) e ∙ none-higher (y ∷ zs) (subst (λ v. Sides (v ∷ y ∷ zs)) e h) in
-          let over : b r a ≡ true = ap (λ v. b v a) (sym e) ∙ h.sorted.0 a (other-a (omega arith)) in
+          let none : count isHigher (z ∷ y ∷ zs) ≡ 0 = ap (λ v. count isHigher (v ∷ y ∷ zs)) e ∙ none_higher (y ∷ zs) (subst (λ v. Sides (v ∷ y ∷ zs)) e h) in
+          let over : b r a ≡ true = ap (λ v. b v a) (sym e) ∙ h.sorted.0 a (other_a (omega arith)) in
           head_higher (ltb k z) (word (y ∷ zs)) (count isLower (z ∷ y ∷ zs)) (count isHigher (z ∷ y ∷ zs)) (lt-ltb k z (omega arith)) none
           ∙ sym (elim (cases_Bool (b a r)) [ inl f ↦ absurd (asym b s a r f over) | inr f ↦ f ])
 
-      skip-lower : (Mem a (y ∷ zs) → Mem r (y ∷ zs) → Tells (y ∷ zs)) → z < k → z ≢ a → Tells (z ∷ y ∷ zs)
-      skip-lower ih g e =
-          let ahead = (h.lower z (inl refl) g).1 (h.sorted.0 a (other-a e)) in
+      skip_lower : (Mem a (y ∷ zs) → Mem r (y ∷ zs) → Tells (y ∷ zs)) → z < k → z ≢ a → Tells (z ∷ y ∷ zs)
+      skip_lower ih g e =
+          let ahead = (h.lower z (inl refl) g).1 (h.sorted.0 a (other_a e)) in
           let p = count_yes isLower z (y ∷ zs) (grind (arith, nat_tests)) in
           let q = count_no isHigher z (y ∷ zs) (grind (arith, nat_tests)) in
           next_lower (ltb k z) (word (y ∷ zs)) (count isLower (z ∷ y ∷ zs)) (count isLower (y ∷ zs)) (count isHigher (z ∷ y ∷ zs)) (le-ltb k z (omega arith)) p
           ∙ ap (sooner (word (y ∷ zs)) (count isLower (y ∷ zs))) q
-          ∙ ih (other-a e) (other-r (omega arith))
+          ∙ ih (other_a e) (other_r (omega arith))
 
-      skip-higher : (Mem a (y ∷ zs) → Mem r (y ∷ zs) → Tells (y ∷ zs)) → k < z → z ≢ r → Tells (z ∷ y ∷ zs)
-      skip-higher ih g e =
-          let ahead = (h.higher z (inl refl) g).1 (h.sorted.0 r (other-r e)) in
+      skip_higher : (Mem a (y ∷ zs) → Mem r (y ∷ zs) → Tells (y ∷ zs)) → k < z → z ≢ r → Tells (z ∷ y ∷ zs)
+      skip_higher ih g e =
+          let ahead = (h.higher z (inl refl) g).1 (h.sorted.0 r (other_r e)) in
           let p = count_yes isHigher z (y ∷ zs) (grind (arith, nat_tests)) in
           let q = count_no isLower z (y ∷ zs) (grind (arith, nat_tests)) in
           next_higher (ltb k z) (word (y ∷ zs)) (count isLower (z ∷ y ∷ zs)) (count isHigher (z ∷ y ∷ zs)) (count isHigher (y ∷ zs)) (lt-ltb k z g) p
           ∙ ap (λ v. sooner (word (y ∷ zs)) v (count isHigher (y ∷ zs))) q
-          ∙ ih (other-a (omega arith)) (other-r e)
+          ∙ ih (other_a (omega arith)) (other_r e)
 
 -- the lots of L(k) and R(k), from best to worst
 module _ (b : ℕ → ℕ → Bool) (s : Strict b) (n k a r : ℕ) (la : InL b k a) (rr : InR b k r) (first : 1 ≤ a) (last : r ≤ n) where
   abbrev side : ℕ → Bool
   side i = in_l b k i || in_r b k i
 
-  L-or-R : (z : ℕ) → side z ≡ true → InL b k z ⊎ InR b k z
-  L-or-R z e = elim (or_cases (in_l b k z) (in_r b k z) e) [ inl h ↦ inl (LFromTest b k z h) | inr h ↦ inr (RFromTest b k z h) ]
+  LOrR : (z : ℕ) → side z ≡ true → InL b k z ⊎ InR b k z
+  LOrR z e = elim (or_cases (in_l b k z) (in_r b k z) e) [ inl h ↦ inl (LFromTest b k z h) | inr h ↦ inr (RFromTest b k z h) ]
 
   sides : Sides b s k a r la.less rr.less (ranked b side 1 n)
   sides = record {
     sorted = ranked_sorted b s side 1 n;
-    apart = λ z m. elim (L-or-R z (ranked_there b side 1 n z m).2) [ inl h ↦ omega (arith, h.less) | inr h ↦ omega (arith, h.less) ];
-    lower = λ z m g. elim (L-or-R z (ranked_there b side 1 n z m).2) [
+    apart = λ z m. elim (LOrR z (ranked_there b side 1 n z m).2) [ inl h ↦ omega (arith, h.less) | inr h ↦ omega (arith, h.less) ];
+    lower = λ z m g. elim (LOrR z (ranked_there b side 1 n z m).2) [
       | inr h ↦ absurd (omega (arith, h.less))
       | inl h ↦ (
         λ u. h.next.over a (omega arith) (omega (arith, la.less)) (omega arith),
@@ -205,7 +205,7 @@ module _ (b : ℕ → ℕ → Bool) (s : Strict b) (n k a r : ℕ) (la : InL b k
         ],
       )
     ];
-    higher = λ z m g. elim (L-or-R z (ranked_there b side 1 n z m).2) [
+    higher = λ z m g. elim (LOrR z (ranked_there b side 1 n z m).2) [
       | inl h ↦ absurd (omega (arith, h.less))
       | inr h ↦ (
         λ u. h.next.over r (omega (arith, rr.less)) (omega arith) (omega arith),
@@ -218,14 +218,14 @@ module _ (b : ℕ → ℕ → Bool) (s : Strict b) (n k a r : ℕ) (la : InL b k
     ];
   }
 
-  lower-is : (m : ℕ) → (side m && (ltb m k && ltb m a)) ≡ (in_l b k m && ltb m a)
-  lower-is m = elim (cases_Bool (in_l b k m)) [
+  lower_is : (m : ℕ) → (side m && (ltb m k && ltb m a)) ≡ (in_l b k m && ltb m a)
+  lower_is m = elim (cases_Bool (in_l b k m)) [
     | inl e ↦ let h = (LFromTest b k m e).less in grind (arith, nat_tests)
     | inr e ↦ elim (cases_Bool (in_r b k m)) [ inl g ↦ let h = (RFromTest b k m g).less in grind (arith, nat_tests) | inr g ↦ grind (arith, nat_tests) ]
   ]
 
-  higher-is : (m : ℕ) → (side m && (ltb k m && ltb r m)) ≡ (in_r b k m && ltb r m)
-  higher-is m = elim (cases_Bool (in_r b k m)) [
+  higher_is : (m : ℕ) → (side m && (ltb k m && ltb r m)) ≡ (in_r b k m && ltb r m)
+  higher_is m = elim (cases_Bool (in_r b k m)) [
     | inl e ↦ let h = (RFromTest b k m e).less in grind (arith, nat_tests)
     | inr e ↦ elim (cases_Bool (in_l b k m)) [ inl g ↦ let h = (LFromTest b k m g).less in grind (arith, nat_tests) | inr g ↦ grind (arith, nat_tests) ]
   ]
@@ -233,8 +233,8 @@ module _ (b : ℕ → ℕ → Bool) (s : Strict b) (n k a r : ℕ) (la : InL b k
   pub left_first_lem : is_left_first b n k a r ≡ b a r
   unfolding full_word
   left_first_lem =
-      let x = count_ranked b (isLower b s k a r la.less rr.less) side (λ m. in_l b k m && ltb m a) lower-is 1 n in
-      let y = count_ranked b (isHigher b s k a r la.less rr.less) side (λ m. in_r b k m && ltb r m) higher-is 1 n in
+      let x = count_ranked b (isLower b s k a r la.less rr.less) side (λ m. in_l b k m && ltb m a) lower_is 1 n in
+      let y = count_ranked b (isHigher b s k a r la.less rr.less) side (λ m. in_r b k m && ltb r m) higher_is 1 n in
       sooner_before (spine_of b n k) (tally (λ m. in_l b k m && ltb m a) 1 n) (tally (λ m. in_r b k m && ltb r m) 1 n)
       ∙ ap (λ v. sooner (spine_of b n k) v (tally (λ m. in_r b k m && ltb r m) 1 n)) (sym x)
       ∙ ap (sooner (spine_of b n k) (count (isLower b s k a r la.less rr.less) (ranked b side 1 n))) (sym y)
@@ -282,28 +282,28 @@ module _ (b : ℕ → ℕ → Bool) (s : Strict b) (n i j : ℕ) (one : 1 ≤ i)
     abbrev r : ℕ
     r = best b (suc k) j
 
-    a-best : Best b i (k - 1) a
-    a-best = best_is b s i (k - 1) (omega arith)
+    a_best : Best b i (k - 1) a
+    a_best = best_is b s i (k - 1) (omega arith)
 
-    r-best : Best b (suc k) j r
-    r-best = best_is b s (suc k) j right
+    r_best : Best b (suc k) j r
+    r_best = best_is b s (suc k) j right
 
     a_in : InL b k a
-    a_in = let h = top in let g = a-best in record {
+    a_in = let h = top in let g = a_best in record {
       less = omega (arith, g.upto);
       over = record { from = omega (arith, g.upto); upto = omega arith; over = λ m u v d. h.over m (omega (arith, g.from)) (omega arith) d };
       next = record { from = omega arith; upto = g.upto; over = λ m u v d. g.over m (omega (arith, g.from)) v d };
     }
 
-    r-in : InR b k r
-    r-in = let h = top in let g = r-best in record {
+    r_in : InR b k r
+    r_in = let h = top in let g = r_best in record {
       less = g.from;
       over = record { from = omega arith; upto = omega (arith, g.from); over = λ m u v d. h.over m (omega arith) (omega (arith, g.upto)) d };
       next = record { from = g.from; upto = omega arith; over = λ m u v d. g.over m u (omega (arith, g.upto)) d };
     }
 
     both_left : b a r ≡ true → Second b i j k a
-    both_left e = let g = a-best in let h = r-best in record {
+    both_left e = let g = a_best in let h = r_best in record {
       best = top;
       from = g.from;
       upto = omega (arith, g.upto);
@@ -315,7 +315,7 @@ module _ (b : ℕ → ℕ → Bool) (s : Strict b) (n i j : ℕ) (one : 1 ≤ i)
     }
 
     both_right : b r a ≡ true → Second b i j k r
-    both_right e = let g = a-best in let h = r-best in record {
+    both_right e = let g = a_best in let h = r_best in record {
       best = top;
       from = omega (arith, h.from);
       upto = h.upto;
@@ -328,10 +328,10 @@ module _ (b : ℕ → ℕ → Bool) (s : Strict b) (n i j : ℕ) (one : 1 ≤ i)
 
     both : second b i j ≡ cond (is_left_first b n k a r) (Some a) (Some r)
     both =
-        let same = left_first_lem b s n k a r a_in r-in (omega (arith, a-best.from)) (omega (arith, r-best.upto)) in
+        let same = left_first_lem b s n k a r a_in r_in (omega (arith, a_best.from)) (omega (arith, r_best.upto)) in
         rw same (elim (cases_Bool (b a r)) [
           | inl e ↦ rw e (second_some b s i j a range (both_left e))
-          | inr e ↦ rw e (second_some b s i j r range (both_right (s.total a r (omega (arith, a-best.upto, r-best.from)) e)))
+          | inr e ↦ rw e (second_some b s i j r range (both_right (s.total a r (omega (arith, a_best.upto, r_best.from)) e)))
         ])
 
 pub second_by_the_spine : SecondByTheSpine

@@ -113,18 +113,18 @@ ranked_length b f i zero = refl
 ranked_length b f i (suc n) = grind (arith, insert_length b i (ranked b f (suc i) n), ranked_length b f (suc i) n)
 
 module _ (b : ℕ → ℕ → Bool) (s : Strict b) where
-  insert-sorted : (x : ℕ) (ys : List ℕ) → ((y : ℕ) → Mem y ys → x ≢ y) → Sorted b ys → Sorted b (insert b x ys)
+  insert_sorted : (x : ℕ) (ys : List ℕ) → ((y : ℕ) → Mem y ys → x ≢ y) → Sorted b ys → Sorted b (insert b x ys)
   unfolding insert
-  insert-sorted x [] d h = (λ y m. absurd m, tt)
-  insert-sorted x (y ∷ ys) d h = cond_both (b x y) (x ∷ y ∷ ys) (y ∷ insert b x ys) (Sorted b)
+  insert_sorted x [] d h = (λ y m. absurd m, tt)
+  insert_sorted x (y ∷ ys) d h = cond_both (b x y) (x ∷ y ∷ ys) (y ∷ insert b x ys) (Sorted b)
       (λ e. (λ z m. elim m [ inl g ↦ rw g e | inr g ↦ s.transitive x y z e (h.0 z g) ], h))
-      (λ e. (λ z m. elim (insert_there b x ys z m) [ inl g ↦ rw g (s.total x y (d y (inl refl)) e) | inr g ↦ h.0 z g ], insert-sorted x ys (λ z m. d z (inr m)) h.1))
+      (λ e. (λ z m. elim (insert_there b x ys z m) [ inl g ↦ rw g (s.total x y (d y (inl refl)) e) | inr g ↦ h.0 z g ], insert_sorted x ys (λ z m. d z (inr m)) h.1))
 
   pub ranked_sorted : (f : ℕ → Bool) (i n : ℕ) → Sorted b (ranked b f i n)
   unfolding ranked
   ranked_sorted f i zero = tt
   ranked_sorted f i (suc n) = cond_both (f i) (insert b i (ranked b f (suc i) n)) (ranked b f (suc i) n) (Sorted b)
-      (λ e. insert-sorted i (ranked b f (suc i) n) (λ y m. omega (arith, (ranked_there b f (suc i) n y m).0)) (ranked_sorted f (suc i) n))
+      (λ e. insert_sorted i (ranked b f (suc i) n) (λ y m. omega (arith, (ranked_there b f (suc i) n y m).0)) (ranked_sorted f (suc i) n))
       (λ e. ranked_sorted f (suc i) n)
 
   -- two lists from best to worst of the same lots are equal
@@ -153,13 +153,13 @@ module _ (b : ℕ → ℕ → Bool) (s : Strict b) where
       let h = spine_r_best (root o l) r f.2 z m in
       record { from = omega arith; upto = omega (arith, h.upto); over = λ m p q d. h.over m p (omega arith) d }
 
-  best-spineR : (o : ℕ) (t : Tree) → Follows b o t → (z : ℕ) → o < z → z ≤ o + size t → Best b z (o + size t) z → Mem z (spine_r o t)
+  best_spine_r : (o : ℕ) (t : Tree) → Follows b o t → (z : ℕ) → o < z → z ≤ o + size t → Best b z (o + size t) z → Mem z (spine_r o t)
   unfolding size spine_r
-  best-spineR o leaf f z p q h = absurd (omega arith)
-  best-spineR o (node l w r) f z p q h = elim (cases_order z (root o l)) [
+  best_spine_r o leaf f z p q h = absurd (omega arith)
+  best_spine_r o (node l w r) f z p q h = elim (cases_order z (root o l)) [
     | inl e ↦ inl e
     | inr (inl e) ↦ absurd (asym b s z (root o l) (h.over (root o l) (omega arith) (omega arith) (omega arith)) (f.0.over z p q (omega arith)))
-    | inr (inr e) ↦ inr (best-spineR (root o l) r f.2 z e (omega arith) (record { from = omega arith; upto = omega arith; over = λ m u v d. h.over m u (omega arith) d }))
+    | inr (inr e) ↦ inr (best_spine_r (root o l) r f.2 z e (omega arith) (record { from = omega arith; upto = omega arith; over = λ m u v d. h.over m u (omega arith) d }))
   ]
 
   pub spine_l_best : (o : ℕ) (t : Tree) → Follows b o t → (z : ℕ) → Mem z (spine_l o t) → Best b (suc o) z z
@@ -168,12 +168,12 @@ module _ (b : ℕ → ℕ → Bool) (s : Strict b) where
   spine_l_best o (node l w r) f z (inl e) = record { from = omega arith; upto = omega arith; over = λ m p q d. rw e (f.0.over m p (omega arith) (omega arith)) }
   spine_l_best o (node l w r) f z (inr m) = spine_l_best o l f.1 z m
 
-  best-spineL : (o : ℕ) (t : Tree) → Follows b o t → (z : ℕ) → o < z → z ≤ o + size t → Best b (suc o) z z → Mem z (spine_l o t)
+  best_spine_l : (o : ℕ) (t : Tree) → Follows b o t → (z : ℕ) → o < z → z ≤ o + size t → Best b (suc o) z z → Mem z (spine_l o t)
   unfolding size spine_l
-  best-spineL o leaf f z p q h = absurd (omega arith)
-  best-spineL o (node l w r) f z p q h = elim (cases_order z (root o l)) [
+  best_spine_l o leaf f z p q h = absurd (omega arith)
+  best_spine_l o (node l w r) f z p q h = elim (cases_order z (root o l)) [
     | inl e ↦ inl e
-    | inr (inl e) ↦ inr (best-spineL o l f.1 z p (omega arith) h)
+    | inr (inl e) ↦ inr (best_spine_l o l f.1 z p (omega arith) h)
     | inr (inr e) ↦ absurd (asym b s z (root o l) (h.over (root o l) (omega arith) (omega arith) (omega arith)) (f.0.over z p q (omega arith)))
   ]
 
@@ -250,7 +250,7 @@ module _ (b : ℕ → ℕ → Bool) (s : Strict b) (n o : ℕ) (l : Tree) (w : L
   pub left_there : (z : ℕ) → 1 ≤ z → InL b (root o l) z → Mem z (spine_r o l)
   unfolding size
   left_there z p h = elim (cases_lt o z) [
-    | inl g ↦ best-spineR b s o l f.1 z g (omega (arith, h.less)) (subst (λ j. Best b z j z) (omega arith) h.next)
+    | inl g ↦ best_spine_r b s o l f.1 z g (omega (arith, h.less)) (subst (λ j. Best b z j z) (omega arith) h.next)
     | inr g ↦ elim c.before [
       | inl e ↦ absurd (omega arith)
       | inr u ↦ absurd (asym b s o (root o l) (u (root o l) (omega arith) (omega arith)) (h.over.over o g (omega arith) (omega arith)))
@@ -260,12 +260,12 @@ module _ (b : ℕ → ℕ → Bool) (s : Strict b) (n o : ℕ) (l : Tree) (w : L
   pub right_there : (z : ℕ) → z ≤ n → InR b (root o l) z → Mem z (spine_l (root o l) r)
   unfolding size
   right_there z q h = elim (cases_lt (o + size (node l w r)) z) [
-    | inr g ↦ best-spineL b s (root o l) r f.2 z h.less (omega arith) h.next
+    | inr g ↦ best_spine_l b s (root o l) r f.2 z h.less (omega arith) h.next
     | inl g ↦ absurd (asym b s (suc (o + size (node l w r))) (root o l) (c.after (omega arith) (root o l) (omega arith) (omega arith)) (h.over.over (suc (o + size (node l w r))) (omega arith) (omega arith) (omega arith)))
   ]
 
-  side-there : (z : ℕ) → 1 ≤ z → z ≤ n → (in_l b (root o l) z || in_r b (root o l) z) ≡ true → Mem z (spine_r o l) ⊎ Mem z (spine_l (root o l) r)
-  side-there z p q e = elim (or_cases (in_l b (root o l) z) (in_r b (root o l) z) e) [
+  side_there : (z : ℕ) → 1 ≤ z → z ≤ n → (in_l b (root o l) z || in_r b (root o l) z) ≡ true → Mem z (spine_r o l) ⊎ Mem z (spine_l (root o l) r)
+  side_there z p q e = elim (or_cases (in_l b (root o l) z) (in_r b (root o l) z) e) [
     | inl h ↦ inl (left_there z p (LFromTest b (root o l) z h))
     | inr h ↦ inr (right_there z q (RFromTest b (root o l) z h))
   ]
@@ -292,9 +292,9 @@ module _ (b : ℕ → ℕ → Bool) (s : Strict b) (n o : ℕ) (l : Tree) (w : L
       } in
       (omega arith, omega (arith, c.fits), test_from_R b (root o l) z h)
 
-  side-here : (z : ℕ) → Mem z (spine_r o l) ⊎ Mem z (spine_l (root o l) r) → (1 ≤ z) × (z ≤ n) × ((in_l b (root o l) z || in_r b (root o l) z) ≡ true)
-  side-here z (inl m) = let h = left_here z m in (h.0, h.1, or_left (in_l b (root o l) z) (in_r b (root o l) z) h.2)
-  side-here z (inr m) = let h = right_here z m in (h.0, h.1, or_right (in_l b (root o l) z) (in_r b (root o l) z) h.2)
+  side_here : (z : ℕ) → Mem z (spine_r o l) ⊎ Mem z (spine_l (root o l) r) → (1 ≤ z) × (z ≤ n) × ((in_l b (root o l) z || in_r b (root o l) z) ≡ true)
+  side_here z (inl m) = let h = left_here z m in (h.0, h.1, or_left (in_l b (root o l) z) (in_r b (root o l) z) h.2)
+  side_here z (inr m) = let h = right_here z m in (h.0, h.1, or_right (in_l b (root o l) z) (in_r b (root o l) z) h.2)
 
   pub full_word_lem : full_word b n (root o l) ≡ w
   unfolding full_word
@@ -305,8 +305,8 @@ module _ (b : ℕ → ℕ → Bool) (s : Strict b) (n o : ℕ) (l : Tree) (w : L
       let test : ℕ → Bool = λ i. in_l b k i || in_r b k i in
       let e : ranked b test 1 n ≡ weave w xs ys = sorted_one b s (ranked b test 1 n) (weave w xs ys) (ranked_sorted b s test 1 n)
       (weave_sorted b w xs ys f.3 (spine_r_sorted b s o l f.1) (spine_l_sorted b s k r f.2))
-      (λ z m. let h = ranked_there b test 1 n z m in weave_here b w xs ys f.3 z (side-there z h.0 (omega arith) h.2))
-      (λ z m. let h = side-here z (weave_there w xs ys z m) in ranked_here b test 1 n z h.0 (omega arith) h.2) in
+      (λ z m. let h = ranked_there b test 1 n z m in weave_here b w xs ys f.3 z (side_there z h.0 (omega arith) h.2))
+      (λ z m. let h = side_here z (weave_there w xs ys z m) in ranked_here b test 1 n z h.0 (omega arith) h.2) in
       ap (map (ltb k)) e ∙ weave_word b k w xs ys f.3 (λ x m. omega (arith, spine_r_in o l x m)) (λ y m. omega (arith, spine_l_in k r y m))
 
 pub record Highest (b : ℕ → ℕ → Bool) (i j p : ℕ) : Type 0 where
@@ -325,18 +325,18 @@ highest_is b i (suc j) =
 
 module _ (b : ℕ → ℕ → Bool) (s : Strict b) (n k : ℕ) (r : Tree) (f : Follows b k r) (fits : k + size r ≤ n)
     (first : (k ≡ 0) ⊎ ((m : ℕ) → k < m → m ≤ k + size r → b k m ≡ true)) (last : (m : ℕ) → k + size r < m → m ≤ n → parent b m ≢ k) where
-  child-there : (z : ℕ) → 1 ≤ z → z ≤ n → parent b z ≡ k → Mem z (spine_l k r)
+  child_there : (z : ℕ) → 1 ≤ z → z ≤ n → parent b z ≡ k → Mem z (spine_l k r)
   unfolding parent
-  child-there z p q e =
+  child_there z p q e =
       let h : Highest b z (z - 1) k = subst (Highest b z (z - 1)) e (highest_is b z (z - 1)) in
       elim (cases_lt (k + size r) z) [
         | inl g ↦ absurd (last z g q e)
-        | inr g ↦ best-spineL b s k r f z (omega (arith, h.upto)) g (record { from = omega (arith, h.upto); upto = omega arith; over = λ m u v d. s.total m z d (h.none m u (omega arith)) })
+        | inr g ↦ best_spine_l b s k r f z (omega (arith, h.upto)) g (record { from = omega (arith, h.upto); upto = omega arith; over = λ m u v d. s.total m z d (h.none m u (omega arith)) })
       ]
 
-  child-here : (z : ℕ) → Mem z (spine_l k r) → parent b z ≡ k
+  child_here : (z : ℕ) → Mem z (spine_l k r) → parent b z ≡ k
   unfolding parent
-  child-here z m =
+  child_here z m =
       let h = highest_is b z (z - 1) in
       let g = spine_l_best b s k r f z m in
       let u = spine_l_in k r z m in
@@ -351,8 +351,8 @@ module _ (b : ℕ → ℕ → Bool) (s : Strict b) (n k : ℕ) (r : Tree) (f : F
   children_are =
       let test : ℕ → Bool = λ i. eqb (parent b i) k in
       let e : ranked b test 1 n ≡ spine_l k r = sorted_one b s (ranked b test 1 n) (spine_l k r) (ranked_sorted b s test 1 n) (spine_l_sorted b s k r f)
-      (λ z m. let h = ranked_there b test 1 n z m in child-there z h.0 (omega arith) (eqb-true (parent b z) k h.2))
-      (λ z m. let h = spine_l_in k r z m in ranked_here b test 1 n z (omega arith) (omega arith) (eq-eqb (parent b z) k (child-here z m))) in
+      (λ z m. let h = ranked_there b test 1 n z m in child_there z h.0 (omega arith) (eqb-true (parent b z) k h.2))
+      (λ z m. let h = spine_l_in k r z m in ranked_here b test 1 n z (omega arith) (omega arith) (eq-eqb (parent b z) k (child_here z m))) in
       sym (ranked_length b test 1 n) ∙ ap length e ∙ spine_l_length k r
 
 -- no lot after the part is a child of its root

@@ -84,27 +84,27 @@ module _ (b : ℕ → ℕ → Bool) (s : Strict b) where
   parted v w (x ∷ xs) [] p q = q
   parted v w (x ∷ xs) (y ∷ ys) p q = asym x y (p.0 y (inl refl)) (q.0 x (inl refl))
 
-  merged-one : (v w : List Bool) (xs ys : List ℕ) → Merged b v xs ys → Merged b w xs ys → v ≡ w
-  merged-one [] [] xs ys p q = refl
-  merged-one [] (a ∷ w) xs ys p q = absurd (ended a w xs ys p q)
-  merged-one (a ∷ v) [] xs ys p q = absurd (ended a v xs ys q p)
-  merged-one (false ∷ v) (false ∷ w) [] ys p q = absurd p
-  merged-one (false ∷ v) (false ∷ w) (x ∷ xs) ys p q = ap (◌∷◌ false) (merged-one v w xs ys p.1 q.1)
-  merged-one (true ∷ v) (true ∷ w) xs [] p q = absurd p
-  merged-one (true ∷ v) (true ∷ w) xs (y ∷ ys) p q = ap (◌∷◌ true) (merged-one v w xs ys p.1 q.1)
-  merged-one (false ∷ v) (true ∷ w) xs ys p q = absurd (parted v w xs ys p q)
-  merged-one (true ∷ v) (false ∷ w) xs ys p q = absurd (parted w v xs ys q p)
+  merged_one : (v w : List Bool) (xs ys : List ℕ) → Merged b v xs ys → Merged b w xs ys → v ≡ w
+  merged_one [] [] xs ys p q = refl
+  merged_one [] (a ∷ w) xs ys p q = absurd (ended a w xs ys p q)
+  merged_one (a ∷ v) [] xs ys p q = absurd (ended a v xs ys q p)
+  merged_one (false ∷ v) (false ∷ w) [] ys p q = absurd p
+  merged_one (false ∷ v) (false ∷ w) (x ∷ xs) ys p q = ap (◌∷◌ false) (merged_one v w xs ys p.1 q.1)
+  merged_one (true ∷ v) (true ∷ w) xs [] p q = absurd p
+  merged_one (true ∷ v) (true ∷ w) xs (y ∷ ys) p q = ap (◌∷◌ true) (merged_one v w xs ys p.1 q.1)
+  merged_one (false ∷ v) (true ∷ w) xs ys p q = absurd (parted v w xs ys p q)
+  merged_one (true ∷ v) (false ∷ w) xs ys p q = absurd (parted w v xs ys q p)
 
-  one-tree : (o : ℕ) (t u : Tree) → Follows b o t → Follows b o u → size t ≡ size u → t ≡ u
+  one_tree : (o : ℕ) (t u : Tree) → Follows b o t → Follows b o u → size t ≡ size u → t ≡ u
   unfolding size
-  one-tree o leaf leaf f g e = refl
-  one-tree o leaf (node l w r) f g e = absurd (omega arith)
-  one-tree o (node l w r) leaf f g e = absurd (omega arith)
-  one-tree o (node l w r) (node l' w' r') f g e =
+  one_tree o leaf leaf f g e = refl
+  one_tree o leaf (node l w r) f g e = absurd (omega arith)
+  one_tree o (node l w r) leaf f g e = absurd (omega arith)
+  one_tree o (node l w r) (node l' w' r') f g e =
       let k : root o l ≡ root o l' = best_one (suc o) (o + size (node l w r)) (root o l) (root o l') f.0 (subst (λ z. Best b (suc o) (o + z) (root o l')) (sym e) g.0) in
-      let p = one-tree o l l' f.1 g.1 (omega arith) in
-      let q = one-tree (root o l) r r' f.2 (subst (λ z. Follows b z r') (sym k) g.2) (omega arith) in
-      let m = merged-one w w' (spine_r o l) (spine_l (root o l) r) f.3 (rw (p, q) g.3) in
+      let p = one_tree o l l' f.1 g.1 (omega arith) in
+      let q = one_tree (root o l) r r' f.2 (subst (λ z. Follows b z r') (sym k) g.2) (omega arith) in
+      let m = merged_one w w' (spine_r o l) (spine_l (root o l) r) f.3 (rw (p, q) g.3) in
       cc
 
   -- the best of a range
@@ -120,16 +120,16 @@ module _ (b : ℕ → ℕ → Bool) (s : Strict b) where
           let u = s.total k (i + suc n) (omega (arith, h.upto)) e in
           (i + suc n, record { from = omega arith; upto = omega arith; over = λ m p q d. elim (ℕ_discrete m k) [ yes z ↦ rw z u | no z ↦ s.transitive (i + suc n) k m u (h.over m p (omega arith) z) ] })
 
-  above-front : (x y : ℕ) (ys : List ℕ) → b x y ≡ true → Above b y ys → Above b x (y ∷ ys)
-  above-front x y ys h a z (inl e) = rw e h
-  above-front x y ys h a z (inr m) = s.transitive x y z h (a z m)
+  above_front : (x y : ℕ) (ys : List ℕ) → b x y ≡ true → Above b y ys → Above b x (y ∷ ys)
+  above_front x y ys h a z (inl e) = rw e h
+  above_front x y ys h a z (inr m) = s.transitive x y z h (a z m)
 
-  merged-is : (xs ys : List ℕ) → Sorted b xs → Sorted b ys → ((x y : ℕ) → Mem x xs → Mem y ys → x ≢ y) → (w : List Bool) × Merged b w xs ys
-  merged-is [] [] p q d = ([], tt)
-  merged-is [] (y ∷ ys) p q d =
-      let (w, h) = merged-is [] ys p q.1 (λ x y m n. d x y m (inr n)) in
+  merged_is : (xs ys : List ℕ) → Sorted b xs → Sorted b ys → ((x y : ℕ) → Mem x xs → Mem y ys → x ≢ y) → (w : List Bool) × Merged b w xs ys
+  merged_is [] [] p q d = ([], tt)
+  merged_is [] (y ∷ ys) p q d =
+      let (w, h) = merged_is [] ys p q.1 (λ x y m n. d x y m (inr n)) in
       (true ∷ w, (λ z m. absurd m, h))
-  merged-is (x ∷ xs) ys p q d = go (λ ys. merged-is xs ys p.1) ys q d
+  merged_is (x ∷ xs) ys p q d = go (λ ys. merged_is xs ys p.1) ys q d
     where
       go : ((ys : List ℕ) → Sorted b ys → ((x y : ℕ) → Mem x xs → Mem y ys → x ≢ y) → (w : List Bool) × Merged b w xs ys) →
           (ys : List ℕ) → Sorted b ys → ((z y : ℕ) → Mem z (x ∷ xs) → Mem y ys → z ≢ y) → (w : List Bool) × Merged b w (x ∷ xs) ys
@@ -140,8 +140,8 @@ module _ (b : ℕ → ℕ → Bool) (s : Strict b) where
           pick (go ih ys q.1 (λ z y m n. d z y m (inr n))) (ih (y ∷ ys) q (λ z y m n. d z y (inr m) n)) (b x y) refl
         where
           pick : ((w : List Bool) × Merged b w (x ∷ xs) ys) → ((w : List Bool) × Merged b w xs (y ∷ ys)) → (v : Bool) → b x y ≡ v → (w : List Bool) × Merged b w (x ∷ xs) (y ∷ ys)
-          pick f g true e = (false ∷ g.0, (above-front x y ys e q.0, g.1))
-          pick f g false e = (true ∷ f.0, (above-front y x xs (s.total x y (d x y (inl refl) (inl refl)) e) p.0, f.1))
+          pick f g true e = (false ∷ g.0, (above_front x y ys e q.0, g.1))
+          pick f g false e = (true ∷ f.0, (above_front y x xs (s.total x y (d x y (inl refl) (inl refl)) e) p.0, f.1))
 
   pub spine_r_sorted : (o : ℕ) (t : Tree) → Follows b o t → Sorted b (spine_r o t)
   unfolding spine_r size
@@ -158,7 +158,7 @@ module _ (b : ℕ → ℕ → Bool) (s : Strict b) where
   joined : (o n : ℕ) (l r : Tree) → Best b (suc o) (suc o + n) (root o l) → Follows b o l → Follows b (root o l) r → size l + size r ≡ n → (t : Tree) × (size t ≡ suc n) × Follows b o t
   unfolding size
   joined o n l r h f g e =
-      let (w, m) = merged-is (spine_r o l) (spine_l (root o l) r) (spine_r_sorted o l f) (spine_l_sorted (root o l) r g) (λ x y p q. omega (arith, spine_r_in o l x p, spine_l_in (root o l) r y q)) in
+      let (w, m) = merged_is (spine_r o l) (spine_l (root o l) r) (spine_r_sorted o l f) (spine_l_sorted (root o l) r g) (λ x y p q. omega (arith, spine_r_in o l x p, spine_l_in (root o l) r y q)) in
       (node l w r, ap suc e, (record { from = omega arith; upto = omega arith; over = λ x p q d. h.over x p (omega arith) d }, f, g, m))
 
   tree_is : (depth n o : ℕ) → n ≤ depth → (t : Tree) × (size t ≡ n) × Follows b o t
@@ -174,3 +174,6 @@ module _ (b : ℕ → ℕ → Bool) (s : Strict b) where
 
 pub has_a_tree : (b : ℕ → ℕ → Bool) → Strict b → (o n : ℕ) → (t : Tree) × (size t ≡ n) × Follows b o t
 has_a_tree b s o n = tree_is b s n n o (omega arith)
+
+pub has_one_tree : (b : ℕ → ℕ → Bool) → Strict b → (o : ℕ) (t u : Tree) → Follows b o t → Follows b o u → size t ≡ size u → t ≡ u
+has_one_tree b s o t u f g e = one_tree b s o t u f g e

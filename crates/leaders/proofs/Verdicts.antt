@@ -156,11 +156,11 @@ close_whole (node l w leaf) p o x h =
     ∙ ap (λ n. close_at (p + length (counts l)) n (unary 0 ++ x)) (let y : o - ls l ≡ 0 = omega arith in y)
     ∙ close_last (p + length (counts l)) x
     ∙ ap Some (let y : suc (p + length (counts l)) ≡ p + length (counts l ++ (unary 0 ++ [])) = simp (length-append, unary_length) (omega arith) in y)
-close_whole (node l w (node a y b)) p o x h = close-both l (node a y b) p o x (λ q. close_whole (node a y b) q (ls a) x refl) (ls a) refl (omega arith)
+close_whole (node l w (node a y b)) p o x h = close_both l (node a y b) p o x (λ q. close_whole (node a y b) q (ls a) x refl) (ls a) refl (omega arith)
   where
-    close-both : (l r : Tree) (p o : ℕ) (x : List Bool) → ((q : ℕ) → close_at q (ls a) (counts r ++ x) ≡ Some (q + length (counts r))) → (k : ℕ) → ls r ≡ suc (ls a) → ls l ≡ o →
+    close_both : (l r : Tree) (p o : ℕ) (x : List Bool) → ((q : ℕ) → close_at q (ls a) (counts r ++ x) ≡ Some (q + length (counts r))) → (k : ℕ) → ls r ≡ suc (ls a) → ls l ≡ o →
         close_at p o ((counts l ++ (unary (ls r) ++ counts r)) ++ x) ≡ Some (p + length (counts l ++ (unary (ls r) ++ counts r)))
-    close-both l r p o x f k e g =
+    close_both l r p o x f k e g =
         ap (close_at p o) (let y : (counts l ++ (unary (ls r) ++ counts r)) ++ x ≡ counts l ++ (unary (ls r) ++ (counts r ++ x)) = simp append_assoc in y)
         ∙ close_tree l p o (unary (ls r) ++ (counts r ++ x)) (omega arith)
         ∙ close_more (p + length (counts l)) (o - ls l) (ls r) (counts r ++ x) (omega arith)

@@ -1,7 +1,6 @@
 //! A whole list of calls on a new book.
 
-ghost use Rattle.std.specs.Prelude.{◌≡◌, ◌≤◌, [], map, length, take, drop, is_ok, IfOk, vec_len, vec_capacity, OnErr};
-ghost use Rattle.answers.specs.Room.{roomy};
+ghost use Rattle.std.specs.Prelude.{◌≡◌, ◌≤◌, [], map, length, take, drop, IfOk, vec_capacity, OnErr};
 ghost use Rattle.leaders.specs.Refusal.{answered};
 ghost use Rattle.book.specs.Faults.{told as book_told};
 ghost use Rattle.book.specs.Entries.{room_for};
@@ -9,11 +8,11 @@ ghost use Rattle.book.specs.Held.{keys_in};
 ghost use Rattle.ledger.specs.Ledger.{told, terms, step, step_of, ledger, after, blank};
 
 use crate::call::{BookCall, CallFault};
-use answers::{NoRoom, has_room};
 use bits::punch::Punch;
 use book::book::Book;
 use book::fault::BookFault;
 use keys::key::Key;
+use std::alloc::{AllocError, Global};
 
 /// What a book answers, as the answer to a call of a list.
 fn carried(reply: Result<u32, BookFault>) -> Result<u32, CallFault>
@@ -75,23 +74,20 @@ pub fn play_into<K: Key + Copy, P: Punch>(
     answers
 }
 
-/// The answers of a new book over `list` to the calls, in order, noted in a list that has room for them; without that nothing is played.
+/// The answers of a new book over `list` to the calls, in order. Want of memory for the answers is found before the first call.
 pub fn play_book<K: Key + Copy, P: Punch>(
     list: &mut [K],
     punches: &mut [P],
     work: &mut [u32],
     calls: &[BookCall],
-    answers: Vec<Result<u32, CallFault>>,
-) -> Result<Vec<Result<u32, CallFault>>, NoRoom>
-    ensures reply { is_ok result ≡ roomy (vec_len answers) (vec_capacity answers) (length calls.now) }
+    heap: Global,
+) -> Result<Vec<Result<u32, CallFault>>, AllocError>
     ensures ledger { IfOk result (λ v. ledger (take (length (after (terms K.Key.made K.Key.at_least (room_for (length list.old)) (map P.Punch.room punches.old) (length work.old)) (blank (map P.Punch.written punches.old)) calls.now).lots) list.new) (map P.Punch.written punches.new) (map (answered told) v.items) ≡ after (terms K.Key.made K.Key.at_least (room_for (length list.old)) (map P.Punch.room punches.old) (length work.old)) (blank (map P.Punch.written punches.old)) calls.now) }
     ensures rooms { map P.Punch.room punches.new ≡ map P.Punch.room punches.old }
     ensures homes { map P.Punch.home punches.new ≡ map P.Punch.home punches.old }
     ensures rest { drop 16004 work.new ≡ drop 16004 work.old }
     ensures unplayed { OnErr result ((list.new ≡ list.old) × (punches.new ≡ punches.old) × (work.new ≡ work.old)) }
 {
-    if !has_room(&answers, calls.len()) {
-        return Err(NoRoom);
-    }
+    let answers = Vec::with_capacity(heap, calls.len())?;
     Ok(play_into(list, punches, work, calls, answers))
 }

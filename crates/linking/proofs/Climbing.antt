@@ -43,8 +43,8 @@ children_same b x (suc m) p e =
 
 module _ (b : ℕ → ℕ → Bool) (s : Strict b) (n k x last places : ℕ) (c : Climbed b k x last) (some : x ≢ 0) (upto : k ≤ n) (e : places + children_to b x (k - 1) ≡ children b n x) where
   -- a lot after k is no child of a lot that k beats
-  none-on : b x k ≡ false → (j : ℕ) → k - 1 < j → parent b j ≢ x
-  none-on f j p q =
+  none_on : b x k ≡ false → (j : ℕ) → k - 1 < j → parent b j ≢ x
+  none_on f j p q =
       let h : Highest b j (j - 1) x = subst (Highest b j (j - 1)) q (parent_is b j) in
       let over : b x j ≡ true = elim h.beats [ inl z ↦ absurd (some z) | inr z ↦ z ] in
       elim (cases_eq j k) [
@@ -70,7 +70,7 @@ module _ (b : ℕ → ℕ → Bool) (s : Strict b) (n k x last places : ℕ) (c 
   a_place z = elim (cases_Bool (b x k)) [
     | inl f ↦ f
     | inr f ↦
-        let r = tally_stays (λ i. eqb (parent b i) x) (k - 1) (n - (k - 1)) (λ j p q. ne_eqb (parent b j) x (none-on f j p)) in
+        let r = tally_stays (λ i. eqb (parent b i) x) (k - 1) (n - (k - 1)) (λ j p q. ne_eqb (parent b j) x (none_on f j p)) in
         let g : k - 1 + (n - (k - 1)) ≡ n = omega arith in
         absurd (omega (arith, r, ap (tally (λ i. eqb (parent b i) x) 1) g))
   ]

@@ -49,21 +49,21 @@ module _ (b : ℕ → ℕ → Bool) (s : Strict b) (n : ℕ) where
       } in
       highest_one b (root o l) (root o l - 1) (parent b (root o l)) o (parent_is b (root o l)) h
 
-  top-is : (o j v : ℕ) (t : Tree) → Follows b o t → j ≡ o + size t → Top b (suc o) j v → v ≡ top o t
+  top_is : (o j v : ℕ) (t : Tree) → Follows b o t → j ≡ o + size t → Top b (suc o) j v → v ≡ top o t
   unfolding size
-  top-is o j v leaf f e (inl h) = h.1
-  top-is o j v leaf f e (inr h) = absurd (omega (arith, h.from, h.upto))
-  top-is o j v (node l w r) f e (inl h) = absurd (omega (arith, h.0))
-  top-is o j v (node l w r) f e (inr h) = best_one b s (suc o) j v (root o l) h (subst (λ z. Best b (suc o) z (root o l)) (sym e) f.0)
+  top_is o j v leaf f e (inl h) = h.1
+  top_is o j v leaf f e (inr h) = absurd (omega (arith, h.from, h.upto))
+  top_is o j v (node l w r) f e (inl h) = absurd (omega (arith, h.0))
+  top_is o j v (node l w r) f e (inr h) = best_one b s (suc o) j v (root o l) h (subst (λ z. Best b (suc o) z (root o l)) (sym e) f.0)
 
-  last-top : (o : ℕ) (l : Tree) (w : List Bool) (r : Tree) → Follows b o (node l w r) → Within b n o (node l w r) → Last b (root o l) n (top (root o l) r)
+  last_top : (o : ℕ) (l : Tree) (w : List Bool) (r : Tree) → Follows b o (node l w r) → Within b n o (node l w r) → Last b (root o l) n (top (root o l) r)
   unfolding size
-  last-top o l w leaf f c = record {
+  last_top o l w leaf f c = record {
     upto = omega arith;
     child = inl refl;
     none = λ z p q e. elim (cases_lt (root o l) z) [ inl h ↦ none_after b s n o l w leaf c z (omega arith) q e | inr h ↦ omega (arith, (parent_is b z).upto) ];
   }
-  last-top o l w (node l1 w1 r1) f c =
+  last_top o l w (node l1 w1 r1) f c =
       let d = within_right b n o l w (node l1 w1 r1) f c in
       record {
         upto = omega (arith, d.fits);
@@ -82,11 +82,11 @@ module _ (b : ℕ → ℕ → Bool) (s : Strict b) (n : ℕ) where
     left_is o l w r f c =
         let k = root o l in
         let t : Top b (suc o) (k - 1) (get_or left k 0) = subst (λ p. Top b (suc p) (k - 1) (get_or left k 0)) (parent_root o l w r f c) (h.lefts k (omega arith) (omega (arith, c.fits))) in
-        top-is o (k - 1) (get_or left k 0) l f.1 (omega arith) t
+        top_is o (k - 1) (get_or left k 0) l f.1 (omega arith) t
 
     pub right_is : (o : ℕ) (l : Tree) (w : List Bool) (r : Tree) → Follows b o (node l w r) → Within b n o (node l w r) → get_or right (root o l) 0 ≡ top (root o l) r
     unfolding size
-    right_is o l w r f c = h.rights (root o l) (omega (arith, c.fits)) ∙ last_one b (root o l) n (last_child b (root o l) n) (top (root o l) r) (last_is b (root o l) n) (last-top o l w r f c)
+    right_is o l w r f c = h.rights (root o l) (omega (arith, c.fits)) ∙ last_one b (root o l) n (last_child b (root o l) n) (top (root o l) r) (last_is b (root o l) n) (last_top o l w r f c)
 
     chainR : (o : ℕ) (t : Tree) → Follows b o t → Within b n o t → Chain right (top o t) (spine_r o t)
     unfolding spine_r
@@ -108,10 +108,10 @@ record TwoWalks (b : ℕ → ℕ → Bool) (n : ℕ) (left right : List ℕ) (k 
   kids : children b n k ≡ length ys
 
 module _ (b : ℕ → ℕ → Bool) (s : Strict b) (n : ℕ) (up left right kids : List ℕ) (h : Linked b n n up left right kids) where
-  walks-of : (o : ℕ) (t : Tree) → Follows b o t → Within b n o t → (k : ℕ) → o < k → k ≤ o + size t → TwoWalks b n left right k
+  walks_of : (o : ℕ) (t : Tree) → Follows b o t → Within b n o t → (k : ℕ) → o < k → k ≤ o + size t → TwoWalks b n left right k
   unfolding size
-  walks-of o leaf f c k p q = absurd (omega arith)
-  walks-of o (node l w r) f c k p q = elim (cases_order k (root o l)) [
+  walks_of o leaf f c k p q = absurd (omega arith)
+  walks_of o (node l w r) f c k p q = elim (cases_order k (root o l)) [
     | inl e ↦ subst (TwoWalks b n left right) (sym e) (record {
       xs = spine_r o l;
       ys = spine_l (root o l) r;
@@ -120,8 +120,8 @@ module _ (b : ℕ → ℕ → Bool) (s : Strict b) (n : ℕ) (up left right kids
       merged = subst (λ v. Merged b v (spine_r o l) (spine_l (root o l) r)) (sym (full_word_lem b s n o l w r f c)) f.3;
       kids = root_children b s n o l w r f c ∙ sym (spine_l_length (root o l) r);
     })
-    | inr (inl e) ↦ walks-of o l f.1 (within_left b n o l w r f c) k p (omega arith)
-    | inr (inr e) ↦ walks-of (root o l) r f.2 (within_right b n o l w r f c) k e (omega arith)
+    | inr (inl e) ↦ walks_of o l f.1 (within_left b n o l w r f c) k p (omega arith)
+    | inr (inr e) ↦ walks_of (root o l) r f.2 (within_right b n o l w r f c) k e (omega arith)
   ]
 
 merged_length : (b : ℕ → ℕ → Bool) (w : List Bool) (xs ys : List ℕ) → Merged b w xs ys → length w ≡ length xs + length ys
@@ -134,13 +134,13 @@ merged_length b (true ∷ w) xs [] m = absurd m
 merged_length b (true ∷ w) xs (y ∷ ys) m = omega (arith, merged_length b w xs ys m.1)
 
 module _ (b : ℕ → ℕ → Bool) (s : Strict b) (left right : List ℕ) where
-  turn-false : (x i j : ℕ) (ys : List ℕ) → i ≡ x → 1 ≤ x → Above b x ys → Chain left j ys → turn b i j ≡ false
-  turn-false x i j [] e p a c = grind (arith, nat_tests, e, p, c)
-  turn-false x i j (y ∷ ys) e p a c = let h = a y (inl refl) in let k : b i j ≡ true = rw (e, c.0) h in grind (arith, nat_tests, e, p, k)
+  turn_false : (x i j : ℕ) (ys : List ℕ) → i ≡ x → 1 ≤ x → Above b x ys → Chain left j ys → turn b i j ≡ false
+  turn_false x i j [] e p a c = grind (arith, nat_tests, e, p, c)
+  turn_false x i j (y ∷ ys) e p a c = let h = a y (inl refl) in let k : b i j ≡ true = rw (e, c.0) h in grind (arith, nat_tests, e, p, k)
 
-  turn-true : (y i j : ℕ) (xs : List ℕ) → j ≡ y → 1 ≤ y → Above b y xs → Chain right i xs → turn b i j ≡ true
-  turn-true y i j [] e p a c = grind (arith, nat_tests, e, p, c)
-  turn-true y i j (x ∷ xs) e p a c = let h = beaten_false b s y x (a x (inl refl)) in let k : b i j ≡ false = rw (e, c.0) h in let q = c.1 in let z = c.0 in grind (arith, nat_tests, e, p, k, q, z)
+  turn_true : (y i j : ℕ) (xs : List ℕ) → j ≡ y → 1 ≤ y → Above b y xs → Chain right i xs → turn b i j ≡ true
+  turn_true y i j [] e p a c = grind (arith, nat_tests, e, p, c)
+  turn_true y i j (x ∷ xs) e p a c = let h = beaten_false b s y x (a x (inl refl)) in let k : b i j ≡ false = rw (e, c.0) h in let q = c.1 in let z = c.0 in grind (arith, nat_tests, e, p, k, q, z)
 
   merge_is : (w : List Bool) (xs ys : List ℕ) (i j : ℕ) → Chain right i xs → Chain left j ys → Merged b w xs ys → merge b left right (length (drop_last w)) i j ≡ drop_last w
   unfolding merge drop_last
@@ -148,12 +148,12 @@ module _ (b : ℕ → ℕ → Bool) (s : Strict b) (left right : List ℕ) where
   merge_is (a ∷ []) xs ys i j p q m = refl
   merge_is (false ∷ a ∷ w) [] ys i j p q m = absurd m
   merge_is (false ∷ a ∷ w) (x ∷ xs) ys i j p q m =
-      let e = turn-false x i j ys p.0 p.1 m.0 q in
+      let e = turn_false x i j ys p.0 p.1 m.0 q in
       let h = merge_is (a ∷ w) xs ys (get_or right i 0) j (subst (λ z. Chain right (get_or right z 0) xs) (sym p.0) p.2) q m.1 in
       rw (e, h)
   merge_is (true ∷ a ∷ w) xs [] i j p q m = absurd m
   merge_is (true ∷ a ∷ w) xs (y ∷ ys) i j p q m =
-      let e = turn-true y i j xs q.0 q.1 m.0 p in
+      let e = turn_true y i j xs q.0 q.1 m.0 p in
       let h = merge_is (a ∷ w) xs ys i (get_or left j 0) p (subst (λ z. Chain left (get_or left z 0) ys) (sym q.0) q.2) m.1 in
       rw (e, h)
 
@@ -180,7 +180,7 @@ unfolding children
 ready_is b s n up left right kids h lk =
     let (t, e, f) = has_a_tree b s 0 n in
     let c : Within b n 0 t = record { fits = omega arith; before = inl refl; after = λ h m p q. absurd (omega arith) } in
-    let walks : (k : ℕ) → 1 ≤ k → k ≤ n → TwoWalks b n left right k = λ k p q. walks-of b s n up left right kids h 0 t f c k p (omega arith) in
+    let walks : (k : ℕ) → 1 ≤ k → k ≤ n → TwoWalks b n left right k = λ k p q. walks_of b s n up left right kids h 0 t f c k p (omega arith) in
     let last : (k : ℕ) → k ≤ n → Last b k n (get_or right k 0) = λ k p. subst (Last b k n) (sym (h.rights k p)) (last_is b k n) in
     let total : length (sheet b n) ≡ 2 * (n + 1) + length (spines b n) = omega (arith, ap length (sheet_parts b n), length-append (node_brackets b n) (spines b n), (sheet_lengths b s n).of_brackets) in
     record {

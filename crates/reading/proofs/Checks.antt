@@ -144,13 +144,13 @@ pub word_counts : (xs : List Bool) (n r : ℕ) → n ≡ length xs → r ≡ ran
 unfolding trues
 word_counts xs n r e f =
     let k = f ∙ rank_past xs n (omega arith) in
-    let t = trues-ones xs in
+    let t = trues_ones xs in
     (k ∙ sym t, omega (arith, k, t, word_length xs), omega (arith, k, ones_le_length xs))
   where
-    trues-ones : (xs : List Bool) → trues xs ≡ ones xs
-    trues-ones [] = refl
-    trues-ones (true ∷ xs) = omega (arith, trues-ones xs)
-    trues-ones (false ∷ xs) = trues-ones xs
+    trues_ones : (xs : List Bool) → trues xs ≡ ones xs
+    trues_ones [] = refl
+    trues_ones (true ∷ xs) = omega (arith, trues_ones xs)
+    trues_ones (false ∷ xs) = trues_ones xs
 
 pub too_many_left : (p q : ℕ) (xs : List Bool) → p < falses xs → has_too_many p q xs ≡ true
 unfolding has_too_many

@@ -230,7 +230,7 @@ swept_back bs m j p r s t h k l g n lot w a v = elim (cases_lt s.all.above (p - 
       let best : t.all.best ≡ m = ap (λ z. z.best) (a ∙ unary_many (p - 1 - r) s.all.lot s.all.best s.all.above s.all.steps d) ∙ omega arith in
       let next : t.all.best + 1 ≡ suc m = omega arith in
       let there = begins_back bs m p r h k g n in record {
-        lot = back-lot;
+        lot = back_lot;
         all = all;
         rooted = rooted;
         from = omega arith;
@@ -243,7 +243,7 @@ swept_back bs m j p r s t h k l g n lot w a v = elim (cases_lt s.all.above (p - 
   | inr d ↦
       let x = v.1 d in
       let best : t.all.best ≡ s.all.best = ap (λ z. z.best) (a ∙ unary_few (p - 1 - r) s.all.lot s.all.best s.all.above s.all.steps d) in record {
-        lot = back-lot;
+        lot = back_lot;
         all = all;
         rooted = rooted;
         from = omega (arith, best, w.from);
@@ -258,8 +258,8 @@ swept_back bs m j p r s t h k l g n lot w a v = elim (cases_lt s.all.above (p - 
     all : t.all ≡ reach bs m j
     all = a ∙ ap (climb (unary (p - 1 - r))) w.all ∙ sym (reach_back bs m j p r h k l g n)
 
-    back-lot : t.all.lot ≡ m
-    back-lot = ap (λ z. z.lot) a ∙ passed_lot (p - 1 - r) s.all ∙ omega arith
+    back_lot : t.all.lot ≡ m
+    back_lot = ap (λ z. z.lot) a ∙ passed_lot (p - 1 - r) s.all ∙ omega arith
 
     rooted : Rooted bs m t.all
     rooted = subst (Rooted bs m) (sym a) (rooted_back bs m p r s.all h k lot g n w.rooted)

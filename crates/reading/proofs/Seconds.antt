@@ -140,8 +140,8 @@ module _ (b : ℕ → ℕ → Bool) (s : Strict b) (t : Tree) (bs : List Bool) (
   abbrev lower : List ℕ
   lower = z.pre ++ degrees z.l
 
-  lower-length : length lower ≡ z.q + size z.l
-  lower-length = simp length-append (omega (arith, z.place, degrees_length z.l))
+  lower_length : length lower ≡ z.q + size z.l
+  lower_length = simp length-append (omega (arith, z.place, degrees_length z.l))
 
   split : degrees t ≡ lower ++ (ls z.r ∷ (degrees z.r ++ z.post))
   split = z.parts ∙ sym (append_assoc z.pre (degrees z.l) (ls z.r ∷ (degrees z.r ++ z.post)))
@@ -149,30 +149,30 @@ module _ (b : ℕ → ℕ → Bool) (s : Strict b) (t : Tree) (bs : List Bool) (
   split_after : degrees t ≡ (lower ++ (ls z.r ∷ [])) ++ (degrees z.r ++ z.post)
   split_after = split ∙ sym (append_assoc lower (ls z.r ∷ []) (degrees z.r ++ z.post))
 
-  below-size : k ≤ size t
-  below-size = omega (arith, z.high)
+  below_size : k ≤ size t
+  below_size = omega (arith, z.high)
 
-  take-lower : take (z.q + size z.l) (degrees t) ≡ lower
-  take-lower = ap (take (z.q + size z.l)) split ∙ take_at lower (ls z.r ∷ (degrees z.r ++ z.post)) (z.q + size z.l) lower-length
+  take_lower : take (z.q + size z.l) (degrees t) ≡ lower
+  take_lower = ap (take (z.q + size z.l)) split ∙ take_at lower (ls z.r ∷ (degrees z.r ++ z.post)) (z.q + size z.l) lower_length
 
-  own-length : length (lower ++ (ls z.r ∷ [])) ≡ k
-  own-length = length-append lower (ls z.r ∷ []) ∙ omega (arith, lower-length)
+  own_length : length (lower ++ (ls z.r ∷ [])) ≡ k
+  own_length = length-append lower (ls z.r ∷ []) ∙ omega (arith, lower_length)
 
   take_own : take k (degrees t) ≡ lower ++ (ls z.r ∷ [])
-  take_own = ap (take k) split_after ∙ take_at (lower ++ (ls z.r ∷ [])) (degrees z.r ++ z.post) k own-length
+  take_own = ap (take k) split_after ∙ take_at (lower ++ (ls z.r ∷ [])) (degrees z.r ++ z.post) k own_length
 
   after_first : after 1 bs ≡ 2 + ls t
   unfolding sum
   after_first = ap (after 1) e ∙ after_is t 0 [] (omega arith) refl ∙ omega arith
 
-  after-here : after k bs ≡ 2 + ls t + (z.q + size z.l + sum lower)
-  after-here = ap (after k) e ∙ after_is t (z.q + size z.l) lower (omega (arith, below-size)) take-lower ∙ omega (arith, lower-length)
+  after_here : after k bs ≡ 2 + ls t + (z.q + size z.l + sum lower)
+  after_here = ap (after k) e ∙ after_is t (z.q + size z.l) lower (omega (arith, below_size)) take_lower ∙ omega (arith, lower_length)
 
   after_next : after (k + 1) bs ≡ 2 + ls t + (k + (sum lower + ls z.r))
   unfolding sum
   after_next =
-      ap (λ n. after n bs) (let y : k + 1 ≡ suc k = omega arith in y) ∙ ap (after (suc k)) e ∙ after_is t k (lower ++ (ls z.r ∷ [])) below-size take_own
-      ∙ omega (arith, own-length, sum_append lower (ls z.r ∷ []))
+      ap (λ n. after n bs) (let y : k + 1 ≡ suc k = omega arith in y) ∙ ap (after (suc k)) e ∙ after_is t k (lower ++ (ls z.r ∷ [])) below_size take_own
+      ∙ omega (arith, own_length, sum_append lower (ls z.r ∷ []))
 
   abbrev ahead : ℕ
   ahead = over j (spine_l k z.r)
@@ -186,8 +186,8 @@ module _ (b : ℕ → ℕ → Bool) (s : Strict b) (t : Tree) (bs : List Bool) (
       let found : over j (spine_l k z.r) < ls z.r = subst (λ n. over n (spine_l k z.r) < ls z.r) y f.found in
       let is = subst (λ n. climb (flat (take c (degrees z.r))) (at n n 0 0) ≡ at (suc k) (get_or (spine_l k z.r) (over n (spine_l k z.r)) 0) (ls z.r - 1 - over n (spine_l k z.r)) (turns z.r c)) y f.is in
       let part : drop (k + 1 - 1) (take (j - 1) (degrees t)) ≡ take c (degrees z.r) =
-      ap (λ m. drop m (take (j - 1) (degrees t))) (let x : k + 1 - 1 ≡ length (lower ++ (ls z.r ∷ [])) + 0 = omega (arith, own-length) in x)
-      ∙ ap (λ m. drop (length (lower ++ (ls z.r ∷ [])) + 0) (take m (degrees t))) (let x : j - 1 ≡ length (lower ++ (ls z.r ∷ [])) + c = omega (arith, own-length) in x)
+      ap (λ m. drop m (take (j - 1) (degrees t))) (let x : k + 1 - 1 ≡ length (lower ++ (ls z.r ∷ [])) + 0 = omega (arith, own_length) in x)
+      ∙ ap (λ m. drop (length (lower ++ (ls z.r ∷ [])) + 0) (take m (degrees t))) (let x : j - 1 ≡ length (lower ++ (ls z.r ∷ [])) + c = omega (arith, own_length) in x)
       ∙ ap (λ y. drop (length (lower ++ (ls z.r ∷ [])) + 0) (take (length (lower ++ (ls z.r ∷ [])) + c) y)) split_after
       ∙ slice_append (lower ++ (ls z.r ∷ [])) (degrees z.r ++ z.post) 0 c
       ∙ take-append-le c (degrees z.r) z.post (omega (arith, z.upto, degrees_length z.r)) in
@@ -199,39 +199,39 @@ module _ (b : ℕ → ℕ → Bool) (s : Strict b) (t : Tree) (bs : List Bool) (
   abbrev a : ℕ
   a = get_or (spine_r z.q z.l) aside 0
 
-  left-found : i < k → Left b z.q z.l i aside a
+  left_found : i < k → Left b z.q z.l i aside a
   unfolding size
-  left-found h = left_is b z.q z.l z.follows.1 i z.after (omega arith)
+  left_found h = left_is b z.q z.l z.follows.1 i z.after (omega arith)
 
-  steps-here : (reach bs 1 k).steps ≡ z.depth
-  steps-here =
-      steps_is t bs e (z.q + size z.l) (omega (arith, below-size))
+  steps_here : (reach bs 1 k).steps ≡ z.depth
+  steps_here =
+      steps_is t bs e (z.q + size z.l) (omega (arith, below_size))
       ∙ ap (turns t) (let y : z.q + size z.l ≡ length z.pre + size z.l = omega (arith, z.place) in y)
       ∙ z.turned (size z.l) (omega arith)
       ∙ omega (arith, turns_here z.l z.w z.r (size z.l) refl)
 
-  steps-in : (m : ℕ) → z.q < m → m < k → (reach bs 1 m).steps ≡ z.depth + turns z.l (m - z.q - 1)
-  steps-in m g h =
+  steps_in : (m : ℕ) → z.q < m → m < k → (reach bs 1 m).steps ≡ z.depth + turns z.l (m - z.q - 1)
+  steps_in m g h =
       ap (λ n. (reach bs 1 n).steps) (let y : m ≡ suc (m - 1) = omega arith in y)
-      ∙ steps_is t bs e (m - 1) (omega (arith, below-size))
+      ∙ steps_is t bs e (m - 1) (omega (arith, below_size))
       ∙ ap (turns t) (let y : m - 1 ≡ length z.pre + (m - z.q - 1) = omega (arith, z.place) in y)
       ∙ z.turned (m - z.q - 1) (omega arith)
       ∙ ap (λ n. z.depth + n) (turns_left z.l z.w z.r (m - z.q - 1) (omega arith))
 
-  word-is : i < k → word_at bs (size t) k ≡ 2 * size t + 2 + length z.front
+  word_is : i < k → word_at bs (size t) k ≡ 2 * size t + 2 + length z.front
   unfolding word_at some
-  word-is h =
+  word_is h =
       let lone_is : lones true false (drop (after 1 bs) (take (after k bs) bs)) ≡ lone 1 lower =
       ap (λ y. lones true false (drop (after 1 y) (take (after k y) y))) e
-      ∙ ap (lones true false) (slice_encode t 0 (z.q + size z.l) (omega arith) (omega (arith, below-size)) ∙ ap flat take-lower)
+      ∙ ap (lones true false) (slice_encode t 0 (z.q + size z.l) (omega arith) (omega (arith, below_size)) ∙ ap flat take_lower)
       ∙ lones_flat 1 lower in
       let depth : (reach bs 1 (k - 1)).steps + 1 ≡ z.depth + rs z.l =
-      omega (arith, steps-in (k - 1) (omega (arith, z.after)) (omega arith), ap (turns z.l) (let y : k - 1 - z.q - 1 ≡ size z.l - 1 = omega arith in y), turns_last z.l (omega (arith, z.after))) in
-      omega (arith, lone_is, depth, after_first, after-here, z.symbols 1 (omega arith))
+      omega (arith, steps_in (k - 1) (omega (arith, z.after)) (omega arith), ap (turns z.l) (let y : k - 1 - z.q - 1 ≡ size z.l - 1 = omega arith in y), turns_last z.l (omega (arith, z.after))) in
+      omega (arith, lone_is, depth, after_first, after_here, z.symbols 1 (omega arith))
 
-  drop-word : drop (2 * size t + 2 + length z.front) bs ≡ drop_last z.w ++ z.rest
+  drop_word : drop (2 * size t + 2 + length z.front) bs ≡ drop_last z.w ++ z.rest
   unfolding sum
-  drop-word =
+  drop_word =
       let heads = true ∷ flat (ls t ∷ degrees t) in
       let long : length heads ≡ 2 * size t + 2 = omega (arith, flat_length (ls t ∷ degrees t), degrees_sum t, degrees_length t) in
       ap (λ n. drop (n + length z.front) bs) (sym long)
@@ -244,49 +244,49 @@ module _ (b : ℕ → ℕ → Bool) (s : Strict b) (t : Tree) (bs : List Bool) (
   unfolding Wellformed
   well = let v = trees_are_wellformed b z.q (node z.l z.w z.r) z.follows in (v.0, v.1)
 
-  first-is : i < k → k < j → is_left_first bs (size t) k a (ls z.r - 1 - ahead) ≡ sooner z.w aside ahead
+  first_is : i < k → k < j → is_left_first bs (size t) k a (ls z.r - 1 - ahead) ≡ sooner z.w aside ahead
   unfolding is_left_first
-  first-is g h =
-      let l = left-found g in
+  first_is g h =
+      let l = left_found g in
       let r = (right_is h).0 in
       let in_left : (z.q < a) × (a < k) = (omega (arith, l.best.from, z.after), omega (arith, l.best.upto)) in
-      let x : (reach bs 1 a).steps - (reach bs 1 k).steps ≡ aside = omega (arith, steps-here, steps-in a in_left.0 in_left.1, l.turned) in
-      let y : after (k + 1) bs - after k bs - (2 + (ls z.r - 1 - ahead)) ≡ ahead = omega (arith, after-here, after_next, r) in
-      ap (λ n. sooner (drop n bs) ((reach bs 1 a).steps - (reach bs 1 k).steps) (after (k + 1) bs - after k bs - (2 + (ls z.r - 1 - ahead)))) (word-is g)
+      let x : (reach bs 1 a).steps - (reach bs 1 k).steps ≡ aside = omega (arith, steps_here, steps_in a in_left.0 in_left.1, l.turned) in
+      let y : after (k + 1) bs - after k bs - (2 + (ls z.r - 1 - ahead)) ≡ ahead = omega (arith, after_here, after_next, r) in
+      ap (λ n. sooner (drop n bs) ((reach bs 1 a).steps - (reach bs 1 k).steps) (after (k + 1) bs - after k bs - (2 + (ls z.r - 1 - ahead)))) (word_is g)
       ∙ ap (λ n. sooner (drop (2 * size t + 2 + length z.front) bs) n (after (k + 1) bs - after k bs - (2 + (ls z.r - 1 - ahead)))) x
       ∙ ap (sooner (drop (2 * size t + 2 + length z.front) bs) aside) y
-      ∙ ap (λ w. sooner w aside ahead) drop-word
+      ∙ ap (λ w. sooner w aside ahead) drop_word
       ∙ sooner_drop z.w z.rest aside ahead (omega (arith, well, l.found)) (omega (arith, well, r))
 
-  scan-is : i < k → k < j → scan i j z.w (spine_r z.q z.l) (spine_l k z.r) ≡ cond (sooner z.w aside ahead) a (get_or (spine_l k z.r) ahead 0)
-  scan-is g h =
+  scan_is : i < k → k < j → scan i j z.w (spine_r z.q z.l) (spine_l k z.r) ≡ cond (sooner z.w aside ahead) a (get_or (spine_l k z.r) ahead 0)
+  scan_is g h =
       scan_sooner i j z.w (spine_r z.q z.l) (spine_l k z.r) (well.0 ∙ sym (spine_r_length z.q z.l)) (well.1 ∙ sym (spine_l_length k z.r))
-      (omega (arith, (left-found g).found, spine_r_length z.q z.l)) (omega (arith, (right_is h).0, spine_l_length k z.r))
+      (omega (arith, (left_found g).found, spine_r_length z.q z.l)) (omega (arith, (right_is h).0, spine_l_length k z.r))
 
-  node-second : i < k → k < j → Second b i j k (scan i j z.w (spine_r z.q z.l) (spine_l k z.r))
+  node_second : i < k → k < j → Second b i j k (scan i j z.w (spine_r z.q z.l) (spine_l k z.r))
   unfolding best_of second_of size
-  node-second g h = rw (le-ltb j k (omega arith), le-ltb k i (omega arith)) at (second_is_found b s z.q (node z.l z.w z.r) z.follows i j z.after (omega arith) (omega (arith, z.upto)))
+  node_second g h = rw (le-ltb j k (omega arith), le-ltb k i (omega arith)) at (second_is_found b s z.q (node z.l z.w z.r) z.follows i j z.after (omega arith) (omega (arith, z.upto)))
 
-  left-reach : Follows b 0 t → i < k → (reach bs i (k - 1)).best ≡ a
-  left-reach f g =
-      let y = zoom b 0 t f i (k - 1) (omega (arith, z.after)) (omega arith) (omega (arith, below-size)) in
-      zoom_best b t bs e i (k - 1) (omega arith) (omega (arith, below-size)) y
-      ∙ best_one b s i (k - 1) (root y.q y.l) a (root_best b t i (k - 1) y) (subst (λ n. Best b i n a) (let x : z.q + size z.l ≡ k - 1 = omega arith in x) (left-found g).best)
+  left_reach : Follows b 0 t → i < k → (reach bs i (k - 1)).best ≡ a
+  left_reach f g =
+      let y = zoom b 0 t f i (k - 1) (omega (arith, z.after)) (omega arith) (omega (arith, below_size)) in
+      zoom_best b t bs e i (k - 1) (omega arith) (omega (arith, below_size)) y
+      ∙ best_one b s i (k - 1) (root y.q y.l) a (root_best b t i (k - 1) y) (subst (λ n. Best b i n a) (let x : z.q + size z.l ≡ k - 1 = omega arith in x) (left_found g).best)
 
-  both-sides : Follows b 0 t → i < k → k < j → Second b i j k (runner_up_of bs (size t) i j k)
+  both_sides : Follows b 0 t → i < k → k < j → Second b i j k (runner_up_of bs (size t) i j k)
   unfolding runner_up_of
-  both-sides f g h =
+  both_sides f g h =
       let r = (right_is h).1 in
       let above = ap (λ s. s.above) r in
       let best = ap (λ s. s.best) r in
       let A = (reach bs i (k - 1)).best in
       let chosen : cond (is_left_first bs (size t) k A (reach bs (k + 1) j).above) A (reach bs (k + 1) j).best ≡ scan i j z.w (spine_r z.q z.l) (spine_l k z.r) =
-      ap (λ x. cond (is_left_first bs (size t) k x (reach bs (k + 1) j).above) x (reach bs (k + 1) j).best) (left-reach f g)
+      ap (λ x. cond (is_left_first bs (size t) k x (reach bs (k + 1) j).above) x (reach bs (k + 1) j).best) (left_reach f g)
       ∙ ap (λ x. cond (is_left_first bs (size t) k a x) a (reach bs (k + 1) j).best) above
       ∙ ap (λ x. cond (is_left_first bs (size t) k a (ls z.r - 1 - ahead)) a x) best
-      ∙ ap (λ x. cond x a (get_or (spine_l k z.r) ahead 0)) (first-is g h)
-      ∙ sym (scan-is g h) in
-      rw (ne_eqb i k (omega arith), ne_eqb k j (omega arith)) (subst (Second b i j k) (sym chosen) (node-second g h))
+      ∙ ap (λ x. cond x a (get_or (spine_l k z.r) ahead 0)) (first_is g h)
+      ∙ sym (scan_is g h) in
+      rw (ne_eqb i k (omega arith), ne_eqb k j (omega arith)) (subst (Second b i j k) (sym chosen) (node_second g h))
 
 -- lots on one side only
 right_only : (b : ℕ → ℕ → Bool) (i j k s : ℕ) → Best b i j k → i ≡ k → Best b (k + 1) j s → Second b i j k s
@@ -328,7 +328,7 @@ second_read b s bs n e i j g h m =
     let at-k : Second b i j k (runner_up_of bs n i j k) =
     elim (cases_lt i k) [
       | inl p ↦ elim (cases_lt k j) [
-        | inl q ↦ subst (λ x. Second b i j k (runner_up_of bs x i j k)) c.sized (both-sides b s c.t bs c.is i j (omega (arith, c.sized)) z c.follows p q)
+        | inl q ↦ subst (λ x. Second b i j k (runner_up_of bs x i j k)) c.sized (both_sides b s c.t bs c.is i j (omega (arith, c.sized)) z c.follows p q)
         | inr q ↦ let y : k ≡ j = omega (arith, z.high) in subst (Second b i j k) (sym (runner_left bs n i j k p y)) (left_only b i j k _ best y p (best_read b s bs n e i (k - 1) g (omega arith) (omega arith)))
       ]
       | inr p ↦ let y : i ≡ k = omega (arith, z.low) in subst (Second b i j k) (sym (runner_right bs n i j k y (omega arith))) (right_only b i j k _ best y (best_read b s bs n e (k + 1) j (omega arith) (omega arith) m))

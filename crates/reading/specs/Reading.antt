@@ -1,13 +1,14 @@
 -- What the reader finds in the bits of a sheet.
 use Rattle.std.specs.Prelude.{◌≡◌, ℕ, ◌+◌, ◌-◌, ◌*◌, ◌^◌, ◌<◌, ◌≤◌, Bool, true, false, cond, List, take, drop, ◌==◌}
 use Rattle.reading.specs.declared.climb.Climb.{Climb}
+use Rattle.reading.specs.declared.climb.Mark.{Mark}
 use Rattle.reading.specs.declared.climb.Sweep.{Sweep}
 use Rattle.reading.specs.declared.place.Way.{Way}
 use Rattle.reading.specs.declared.place.Ways.{Ways}
 use Rattle.leaders.specs.Sheet.{unary}
 use Rattle.reading.specs.Climbing.{at, climb}
 use Rattle.leaders.specs.Tree.{sooner}
-use Rattle.reading.specs.Place.{after, lones, lonely, Begins, Lone}
+use Rattle.reading.specs.Place.{after, lones, lonely, Begins, Lone, Marked}
 
 -- from lot j back to lot i
 unfoldable pub reach : List Bool → ℕ → ℕ → Climb
@@ -88,3 +89,14 @@ pub record Front (bs : List Bool) (k a steps gone : ℕ) (w : Ways) : Type 0 whe
   pub best : w.way.left.steps ≡ (reach bs 1 a).steps + steps
   pub own : w.own.steps ≡ (reach bs 1 k).steps + gone
   pub lone : lones true false (drop (after 1 bs) (take (after k bs) bs)) ≡ w.way.lone + cond w.way.bare 1 0
+
+-- lot 1 and the ends of a range are marked, k is one of the range, and the best in front of k, if there is one, is one too
+pub record Ends (bs : List Bool) (first low high : Mark) (k : ℕ) : Type 0 where
+  pub one : first.lot ≡ 1
+  pub first_is : Marked bs first
+  pub low_is : Marked bs low
+  pub high_is : Marked bs high
+  pub some : 1 ≤ low.lot
+  pub from : low.lot ≤ k
+  pub upto : k ≤ high.lot
+  pub left : low.lot < k → low.lot ≤ (reach bs low.lot (k - 1)).best

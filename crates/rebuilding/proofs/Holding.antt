@@ -61,9 +61,9 @@ module _ (b : ℕ → ℕ → Bool) (s : Strict b) (n : ℕ) (bits : List Bool) 
       let same : bits ≡ front n = sym e in
       ap length same ∙ ap (λ m. length (front m)) (sym i))
 
-  word-is : (k : ℕ) → 1 ≤ k → k ≤ n → word_at bits starts n k ≡ spine_of b n k
-  word-is zero p q = absurd (omega arith)
-  word-is (suc m) p q =
+  word_is : (k : ℕ) → 1 ≤ k → k ≤ n → word_at bits starts n k ≡ spine_of b n k
+  word_is zero p q = absurd (omega arith)
+  word_is (suc m) p q =
       let d : suc m + (n - suc m) ≡ n = omega arith in
       let i : suc m - 1 ≡ m = omega arith in
       let start : length (front m) ≡ get_or starts m 0 = front_length m ∙ sym (rw i at (at (suc m) p q)) in
@@ -81,16 +81,16 @@ module _ (b : ℕ → ℕ → Bool) (s : Strict b) (n : ℕ) (bits : List Bool) 
           h.parents k (omega arith) most ∙ parent_root b s n o l w r f c,
           left_is b s n up left right kids h o l w r f c,
           right_is b s n up left right kids h o l w r f c,
-          word-is k (omega arith) most ∙ ap drop_last (full_word_lem b s n o l w r f c),
+          word_is k (omega arith) most ∙ ap drop_last (full_word_lem b s n o l w r f c),
           holds o l f.1 (within_left b n o l w r f c),
           holds k r f.2 (within_right b n o l w r f c),
         )
 
     -- the best of all lots is the last child of node 0
-    last-top : (t : Tree) → size t ≡ n → Follows b 0 t → Within b n 0 t → Last b 0 n (top 0 t)
+    last_top : (t : Tree) → size t ≡ n → Follows b 0 t → Within b n 0 t → Last b 0 n (top 0 t)
     unfolding size
-    last-top leaf d f c = record { upto = omega arith; child = inl refl; none = λ z p q. absurd (omega arith) }
-    last-top (node l w r) d f c = record {
+    last_top leaf d f c = record { upto = omega arith; child = inl refl; none = λ z p q. absurd (omega arith) }
+    last_top (node l w r) d f c = record {
       upto = omega (arith, c.fits);
       child = inr (parent_root b s n 0 l w r f c);
       none = λ z p q i.
@@ -98,8 +98,8 @@ module _ (b : ℕ → ℕ → Bool) (s : Strict b) (n : ℕ) (bits : List Bool) 
           both_ways (b (root 0 l) z) (g.none (root 0 l) (omega arith) (omega arith)) (f.0.over z (omega arith) (omega arith) (omega arith));
     }
 
-    first-is : (t : Tree) → size t ≡ n → Follows b 0 t → Within b n 0 t → get_or right 0 0 ≡ top 0 t
-    first-is t d f c = h.rights 0 (omega arith) ∙ last_one b 0 n (last_child b 0 n) (top 0 t) (last_is b 0 n) (last-top t d f c)
+    first_is : (t : Tree) → size t ≡ n → Follows b 0 t → Within b n 0 t → get_or right 0 0 ≡ top 0 t
+    first_is t d f c = h.rights 0 (omega arith) ∙ last_one b 0 n (last_child b 0 n) (top 0 t) (last_is b 0 n) (last_top t d f c)
 
     pub prices_are_rebuilt : (next prices : List ℕ) →
         ((t : Tree) → size t ≡ n → Wellformed t → Holds up left right (word_at bits starts n) 0 t → Chain next (top 0 t) (list_of 0 t)) → Prices n next (get_or right 0 0) prices → prices ≡ rebuilt b n
@@ -111,7 +111,7 @@ module _ (b : ℕ → ℕ → Bool) (s : Strict b) (n : ℕ) (bits : List Bool) 
         let lists : Lists n zs = record { long = list_length 0 t ∙ d; once = once 0 t v; here = λ z p q. list_here 0 t z p (omega arith) } in
         let linked = chain t d v (holds 0 t f c) in
         let merged : merge_order b n n 1 n ≡ zs = ap (merge_order b n n 1) (let i : n ≡ 0 + size t = omega arith in i) ∙ merge_is b s n n 0 t f c (omega arith) in
-        given zs (subst (λ i. Chain next i zs) (sym (first-is t d f c)) linked) lists ∙ ap (λ w. prices_of n w 1 n) (sym merged)
+        given zs (subst (λ i. Chain next i zs) (sym (first_is t d f c)) linked) lists ∙ ap (λ w. prices_of n w 1 n) (sym merged)
 
 -- what hangs on node 0 is not read
 pub linked_first : (b : ℕ → ℕ → Bool) (n v : ℕ) (up left right kids : List ℕ) → Linked b n n up left right kids → Linked b n n (set up 0 v) left right kids

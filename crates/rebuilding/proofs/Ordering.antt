@@ -64,10 +64,10 @@ module _ (up left right : List ℕ) (word : ℕ → List Bool) where
   chainL o (node l w r) h = (refl, omega arith, subst (λ i. Chain left i (spine_l o l)) (sym h.1) (chainL o l h.4))
 
   -- both sides are ordered, and then the root is joined
-  at-root : (next₀ ends₀ next₁ ends₁ next₂ ends₂ next ends : List ℕ) (o : ℕ) (l : Tree) (w : List Bool) (r : Tree) → Wellformed (node l w r) → Holds up left right word o (node l w r) →
+  at_root : (next₀ ends₀ next₁ ends₁ next₂ ends₂ next ends : List ℕ) (o : ℕ) (l : Tree) (w : List Bool) (r : Tree) → Wellformed (node l w r) → Holds up left right word o (node l w r) →
       Ordered next₀ ends₀ next₁ ends₁ o l → Ordered next₁ ends₁ next₂ ends₂ (root o l) r → Steps left right word (root o l ∷ []) next₂ ends₂ next ends → Ordered next₀ ends₀ next ends o (node l w r)
   unfolding size Wellformed
-  at-root next₀ ends₀ next₁ ends₁ next₂ ends₂ next ends o l w r v held p q (next₃, last, fits, joins, (same_next, same_ends)) =
+  at_root next₀ ends₀ next₁ ends₁ next₂ ends₂ next ends o l w r v held p q (next₃, last, fits, joins, (same_next, same_ends)) =
       let k = root o l in
       let all = list_of o (node l w r) in
       let end_l = get_or ends₂ (get_or left k 0) 0 in
@@ -102,4 +102,4 @@ module _ (up left right : List ℕ) (word : ℕ → List Bool) where
       let k = root o l in
       let (next₁, ends₁, s₁, u) = steps_apart left right word (postorder o l) (postorder k r ++ k ∷ []) next₀ ends₀ next ends s in
       let (next₂, ends₂, s₂, s₃) = steps_apart left right word (postorder k r) (k ∷ []) next₁ ends₁ next ends u in
-      at-root next₀ ends₀ next₁ ends₁ next₂ ends₂ next ends o l w r v held (ordered o l next₀ ends₀ next₁ ends₁ v.2 held.4 s₁) (ordered k r next₁ ends₁ next₂ ends₂ v.3 held.5 s₂) s₃
+      at_root next₀ ends₀ next₁ ends₁ next₂ ends₂ next ends o l w r v held (ordered o l next₀ ends₀ next₁ ends₁ v.2 held.4 s₁) (ordered k r next₁ ends₁ next₂ ends₂ v.3 held.5 s₂) s₃

@@ -85,8 +85,8 @@ module _ (left right : List ℕ) (word : ℕ → List Bool) where
   pass_none next up n t e held = record { done = []; rest = postorder 0 t; steps = (refl, refl); plan = plan_whole up left right word n t e held; below = λ z h. refl; whole = refl }
 
   -- the path that leaves next is as it was
-  path-kept : (next₀ up₀ next up : List ℕ) (t : Tree) (done us vs : List ℕ) (limit x : ℕ) → Steps left right word done next₀ up₀ next up → done ++ (us ++ vs) ≡ postorder 0 t → Way up₀ limit x us → Way up limit x us
-  path-kept next₀ up₀ next up t done us vs limit x steps whole way =
+  path_kept : (next₀ up₀ next up : List ℕ) (t : Tree) (done us vs : List ℕ) (limit x : ℕ) → Steps left right word done next₀ up₀ next up → done ++ (us ++ vs) ≡ postorder 0 t → Way up₀ limit x us → Way up limit x us
+  path_kept next₀ up₀ next up t done us vs limit x steps whole way =
       way_frame up₀ up limit x us (λ z m. steps_other left right word z done next₀ up₀ next up steps
       (omega (arith, mem_count z us m, post_once 0 t z, ap (count z) whole, count_append z done (us ++ vs), count_append z us vs))) way
 
@@ -95,7 +95,7 @@ module _ (left right : List ℕ) (word : ℕ → List Bool) where
       let (us, vs, e, way, plan) = p.plan in
       let whole : p.done ++ (us ++ vs) ≡ postorder 0 t = ap (λ ys. p.done ++ ys) (sym e) ∙ p.whole in
       let same = steps_other left right word k p.done next₀ up₀ next up p.steps (p.below k (omega arith)) in
-      let path = path-kept next₀ up₀ next up t p.done us vs (get_or up₀ k 0) (k - 1) p.steps whole way in
+      let path = path_kept next₀ up₀ next up t p.done us vs (get_or up₀ k 0) (k - 1) p.steps whole way in
       let left-now = leaves us (subst (λ i. Way up i (k - 1) us) (sym same) path) in
       record {
         done = p.done ++ us;
@@ -109,6 +109,6 @@ module _ (left right : List ℕ) (word : ℕ → List Bool) where
   -- the last path leaves, and the order of all lots is linked
   pub pass_all : (next₀ up₀ next up next₁ up₁ : List ℕ) (k n : ℕ) (t : Tree) → k - 1 ≡ n → Wellformed t → Holds up₀ left right word 0 t → Passed next₀ up₀ next up 0 k t → Leaves left right word next up next₁ up₁ 0 n → Chain next₁ (top 0 t) (list_of 0 t)
   pass_all next₀ up₀ next up next₁ up₁ k n t e v held p leaves =
-      let path = path-kept next₀ up₀ next up t p.done p.rest [] 0 n p.steps (ap (λ ys. p.done ++ ys) (append-nil p.rest) ∙ p.whole) (subst (λ i. Way up₀ 0 i p.rest) e p.plan) in
+      let path = path_kept next₀ up₀ next up t p.done p.rest [] 0 n p.steps (ap (λ ys. p.done ++ ys) (append-nil p.rest) ∙ p.whole) (subst (λ i. Way up₀ 0 i p.rest) e p.plan) in
       let steps = steps_append left right word p.done p.rest next₀ up₀ next up next₁ up₁ p.steps (leaves p.rest path) in
       (ordered up₀ left right word 0 t next₀ up₀ next₁ up₁ v held (subst (λ ys. Steps left right word ys next₀ up₀ next₁ up₁) p.whole steps)).chain

@@ -15,12 +15,12 @@ count_absent z [] h = refl
 count_absent z (x ∷ xs) h = let e = ne_eqb x z (λ e. h (inl (sym e))) in rw e (count_absent z xs (λ m. h (inr m)))
 
 module _ (b : ℕ → ℕ → Bool) (s : Strict b) where
-  sorted-once : (xs : List ℕ) → Sorted b xs → (z : ℕ) → count z xs ≤ 1
+  sorted_once : (xs : List ℕ) → Sorted b xs → (z : ℕ) → count z xs ≤ 1
   unfolding count
-  sorted-once [] h z = omega arith
-  sorted-once (x ∷ xs) h z = elim (cases_Bool (eqb x z)) [
+  sorted_once [] h z = omega arith
+  sorted_once (x ∷ xs) h z = elim (cases_Bool (eqb x z)) [
     | inl e ↦ let d = eqb-true x z e in let k = count_absent z xs (λ m. both_ways (b x z) (rw d (s.irreflexive z)) (h.0 z m)) in rw e (omega arith)
-    | inr e ↦ rw e (sorted-once xs h.1 z)
+    | inr e ↦ rw e (sorted_once xs h.1 z)
   ]
 
   record Parted (t : ℕ) (xs : List ℕ) : Type 0 where
@@ -55,25 +55,25 @@ module _ (b : ℕ → ℕ → Bool) (s : Strict b) where
         after = λ z n d. elim n [ inl g ↦ absurd (asym b s x t above (rw g at d)) | inr g ↦ k.after z g d ];
       }
 
-  along-is : (ss xs : List ℕ) → Sorted b ss → Sorted b xs → ((z : ℕ) → Mem z ss → Mem z xs) → Along ss xs
-  along-is [] xs p q has = tt
-  along-is (t ∷ ss) xs p q has =
+  along_is : (ss xs : List ℕ) → Sorted b ss → Sorted b xs → ((z : ℕ) → Mem z ss → Mem z xs) → Along ss xs
+  along_is [] xs p q has = tt
+  along_is (t ∷ ss) xs p q has =
       let k = part t xs q (has t (inl refl)) in
-      (k.us, k.vs, k.same, k.none, along-is ss k.vs p.1 k.sorted (λ z m. k.after z (has z (inr m)) (p.0 z m)))
+      (k.us, k.vs, k.same, k.none, along_is ss k.vs p.1 k.sorted (λ z m. k.after z (has z (inr m)) (p.0 z m)))
 
 -- of a part of a tree
 along_right : (o : ℕ) (t : Tree) → Wellformed t → Along (spine_r o t) (list_of o t)
 along_right o t v =
     let (b, s, f, h) = list_follows_raw t o v in
-    along-is b s (spine_r o t) (list_of o t) (spine_r_sorted b s o t f) h (λ z m. let k = spine_r_in o t z m in list_here o t z k.0 k.1)
+    along_is b s (spine_r o t) (list_of o t) (spine_r_sorted b s o t f) h (λ z m. let k = spine_r_in o t z m in list_here o t z k.0 k.1)
 
 along_left : (o : ℕ) (t : Tree) → Wellformed t → Along (spine_l o t) (list_of o t)
 along_left o t v =
     let (b, s, f, h) = list_follows_raw t o v in
-    along-is b s (spine_l o t) (list_of o t) (spine_l_sorted b s o t f) h (λ z m. let k = spine_l_in o t z m in list_here o t z k.0 k.1)
+    along_is b s (spine_l o t) (list_of o t) (spine_l_sorted b s o t f) h (λ z m. let k = spine_l_in o t z m in list_here o t z k.0 k.1)
 
 pub once : (o : ℕ) (t : Tree) → Wellformed t → (z : ℕ) → count z (list_of o t) ≤ 1
-once o t v z = let (b, s, f, h) = list_follows_raw t o v in sorted-once b s (list_of o t) h z
+once o t v z = let (b, s, f, h) = list_follows_raw t o v in sorted_once b s (list_of o t) h z
 
 pub absent : (o : ℕ) (t : Tree) (z : ℕ) → (z ≤ o) ⊎ (o + size t < z) → count z (list_of o t) ≡ 0
 absent o t z h = count_absent z (list_of o t) (λ m. let k = list_there o t z m in elim h [ inl p ↦ omega arith | inr p ↦ omega arith ])

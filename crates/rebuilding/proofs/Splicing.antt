@@ -97,8 +97,8 @@ cut next x tail a b s pre us vs ys fits r p c d apart =
 
 module _ (next₀ next left right : List ℕ) (x : ℕ) (w : List Bool) (all : List ℕ) (tail a b low high end_l endR : ℕ) (fits : tail < length next) where
   -- a lot that is not in the whole is not tail
-  tail-in : (pre rest : List ℕ) → pre ++ tail ∷ rest ≡ all → (z : ℕ) → count z all ≡ 0 → z ≢ tail
-  tail-in pre rest e z h d =
+  tail_in : (pre rest : List ℕ) → pre ++ tail ∷ rest ≡ all → (z : ℕ) → count z all ≡ 0 → z ≢ tail
+  tail_in pre rest e z h d =
       let m : count z (tail ∷ rest) ≡ suc (count tail rest) = ap (λ y. count y (tail ∷ rest)) d ∙ count_same tail rest in
       omega (arith, ap (count z) e, count_append z pre (tail ∷ rest))
 
@@ -135,7 +135,7 @@ module _ (next₀ next left right : List ℕ) (x : ℕ) (w : List Bool) (all : L
             lefts = omega arith;
             rights = j.rights;
             whole = append_assoc j.pre (tail ∷ us) (s ∷ blend w ss j.ts vs j.ys) ∙ ap (λ zs. j.pre ++ tail ∷ zs) (sym (append_assoc us (s ∷ []) (blend w ss j.ts vs j.ys))) ∙ (rw (p, q) at whole);
-            frame = λ z h. get_or-set_other next tail z a 0 (tail-in j.pre (blend (false ∷ w) (s ∷ ss) j.ts j.xs j.ys) whole z h) ∙ j.frame z h;
+            frame = λ z h. get_or-set_other next tail z a 0 (tail_in j.pre (blend (false ∷ w) (s ∷ ss) j.ts j.xs j.ys) whole z h) ∙ j.frame z h;
           })
 
   pub join_true : Joining next₀ next left right x (true ∷ w) all tail a b low high end_l endR →
@@ -171,7 +171,7 @@ module _ (next₀ next left right : List ℕ) (x : ℕ) (w : List Bool) (all : L
             lefts = j.lefts;
             rights = omega arith;
             whole = append_assoc j.pre (tail ∷ us) (s ∷ blend w j.ss ts j.xs vs) ∙ ap (λ zs. j.pre ++ tail ∷ zs) (sym (append_assoc us (s ∷ []) (blend w j.ss ts j.xs vs))) ∙ (rw (p, q) at whole);
-            frame = λ z h. get_or-set_other next tail z b 0 (tail-in j.pre (blend (true ∷ w) j.ss (s ∷ ts) j.xs j.ys) whole z h) ∙ j.frame z h;
+            frame = λ z h. get_or-set_other next tail z b 0 (tail_in j.pre (blend (true ∷ w) j.ss (s ∷ ts) j.xs j.ys) whole z h) ∙ j.frame z h;
           })
 
 -- only what is left of the right side is still to be hung on t
@@ -212,26 +212,26 @@ module _ (next₀ next left right : List ℕ) (x : ℕ) (all : List ℕ) (tail a
             last = j.last_r;
             apart = λ z. omega (arith, k.apart z);
             whole = append_assoc j.pre (tail ∷ us) (end_l ∷ j.ys) ∙ ap (λ zs. j.pre ++ tail ∷ zs) (sym (append_assoc us (end_l ∷ []) j.ys) ∙ ap (λ zs. zs ++ j.ys) (sym e)) ∙ whole;
-            frame = λ z h. get_or-set_other next tail z a 0 (tail-in next₀ next left right x [] all tail a b low high end_l endR fits j.pre (blend [] j.ss j.ts (y ∷ xs) j.ys) whole z h) ∙ j.frame z h;
+            frame = λ z h. get_or-set_other next tail z a 0 (tail_in next₀ next left right x [] all tail a b low high end_l endR fits j.pre (blend [] j.ss j.ts (y ∷ xs) j.ys) whole z h) ∙ j.frame z h;
           }
 
 module _ (next₀ next : List ℕ) (x : ℕ) (all : List ℕ) (t b endR : ℕ) (h : Hung next₀ next x all t b endR) (fits : t < length next) where
-  chain-end : Chain (set next t b) x all
-  chain-end =
+  chain_end : Chain (set next t b) x all
+  chain_end =
       let at = h.apart t in
       let here = count_same t [] in
       let next' = set next t b in
       subst (Chain next' x) h.whole
       (chain_append next' x t h.pre h.ys h.some (runs_set next t b x t h.pre (omega arith) h.run) (subst (λ i. Chain next' i h.ys) (sym (get_or-set_same next t b 0 fits)) (chain_set next t b b h.ys (omega arith) h.upper)))
 
-  frame-end : (z : ℕ) → count z all ≡ 0 → get_or (set next t b) z 0 ≡ get_or next₀ z 0
-  frame-end z k = get_or-set_other next t z b 0 (tail-in next₀ next [] [] x [] all t 0 0 0 0 0 0 fits h.pre h.ys h.whole z k) ∙ h.frame z k
+  frame_end : (z : ℕ) → count z all ≡ 0 → get_or (set next t b) z 0 ≡ get_or next₀ z 0
+  frame_end z k = get_or-set_other next t z b 0 (tail_in next₀ next [] [] x [] all t 0 0 0 0 0 0 fits h.pre h.ys h.whole z k) ∙ h.frame z k
 
   pub end_none : b ≡ 0 → Joined next₀ (set next t b) x all t
   end_none e = go h.ys h.upper h.whole
     where
       go : (ys : List ℕ) → Chain next b ys → h.pre ++ t ∷ ys ≡ all → Joined next₀ (set next t b) x all t
-      go [] c whole = record { chain = chain-end; ends = ends_from all h.pre t (sym whole); frame = frame-end }
+      go [] c whole = record { chain = chain_end; ends = ends_from all h.pre t (sym whole); frame = frame_end }
       go (y ∷ ys) c whole = absurd (omega (arith, c.0, c.1))
 
   pub end_right : b ≢ 0 → Joined next₀ (set next t b) x all endR
@@ -239,7 +239,7 @@ module _ (next₀ next : List ℕ) (x : ℕ) (all : List ℕ) (t b endR : ℕ) (
     where
       go : (ys : List ℕ) → Chain next b ys → EndsIn ys endR → h.pre ++ t ∷ ys ≡ all → Joined next₀ (set next t b) x all endR
       go [] c l whole = absurd (d c)
-      go (y ∷ ys) c (us, e) whole = record { chain = chain-end; ends = ends_from all (h.pre ++ t ∷ us) endR (sym whole ∙ ap (λ zs. h.pre ++ t ∷ zs) e ∙ sym (append_assoc h.pre (t ∷ us) (endR ∷ []))); frame = frame-end }
+      go (y ∷ ys) c (us, e) whole = record { chain = chain_end; ends = ends_from all (h.pre ++ t ∷ us) endR (sym whole ∙ ap (λ zs. h.pre ++ t ∷ zs) e ∙ sym (append_assoc h.pre (t ∷ us) (endR ∷ []))); frame = frame_end }
 
 pub most_set : (n : ℕ) (next : List ℕ) (t v : ℕ) → t < length next → v ≤ n → AtMost n next → AtMost n (set next t v)
 most_set n next t v h p f k q = elim (cases_eq k t) [

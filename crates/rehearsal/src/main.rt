@@ -190,13 +190,15 @@ fn cast_book(rt: &HostRuntime, sheet: &mut [u8]) -> anyhow::Result<usize> {
     let calls = calls_of(rt.alloc(), &PRICES)?;
     let mut list = [Price { cents: 0 }; 6];
     let mut work = [0; NUMBERS];
-    let room = Vec::with_capacity(rt.alloc(), calls.len())?;
-    let played = {
+    let answers = {
         let mut punches = [LetteredPunch::new(sheet)];
-        play_book(&mut list, &mut punches, &mut work, calls.as_slice(), room)
-    };
-    let Ok(answers) = played else {
-        return Err(anyhow!("there is no room for the answers"));
+        play_book(
+            &mut list,
+            &mut punches,
+            &mut work,
+            calls.as_slice(),
+            rt.alloc(),
+        )?
     };
     let letters = sheet_of(sheet, answers.as_slice());
     tell_book(rt, "The book of the sale", &PRICES, letters)?;

@@ -18,38 +18,38 @@ module _ {K : Type 0} (t : Terms K) where
   after_append l [] zs = refl
   after_append l (x ∷ xs) zs = after_append (after1 t l x) xs zs
 
-  cast-bits : (ks : List K) (bs : List (List Bool)) (p : ℕ) (c : Casting) (r : Result ℕ Refusal) (v : Bool) → length (cond v (punched ks bs p c) (step ks bs r)).bits ≡ length bs
-  cast-bits ks bs p c r true = length-set bs p c.bits
-  cast-bits ks bs p c r false = refl
+  cast_bits : (ks : List K) (bs : List (List Bool)) (p : ℕ) (c : Casting) (r : Result ℕ Refusal) (v : Bool) → length (cond v (punched ks bs p c) (step ks bs r)).bits ≡ length bs
+  cast_bits ks bs p c r true = length-set bs p c.bits
+  cast_bits ks bs p c r false = refl
 
-  step-bits : (ks : List K) (bs : List (List Bool)) (c : BookCall) → length (step_of t ks bs c).bits ≡ length bs
+  step_bits : (ks : List K) (bs : List (List Bool)) (c : BookCall) → length (step_of t ks bs c).bits ≡ length bs
   unfolding step_of
-  step-bits ks bs (Add f) = refl
-  step-bits ks bs (Strike i) = refl
-  step-bits ks bs (NewKey i f) = refl
-  step-bits ks bs (Cast p w) = cast-bits ks bs p _ _ (ltb p (length t.rooms))
+  step_bits ks bs (Add f) = refl
+  step_bits ks bs (Strike i) = refl
+  step_bits ks bs (NewKey i f) = refl
+  step_bits ks bs (Cast p w) = cast_bits ks bs p _ _ (ltb p (length t.rooms))
 
-  after-bits : (l : Ledger K) (cs : List BookCall) → length (after t l cs).bits ≡ length l.bits
+  after_bits : (l : Ledger K) (cs : List BookCall) → length (after t l cs).bits ≡ length l.bits
   unfolding after after1
-  after-bits l [] = refl
-  after-bits l (c ∷ cs) = after-bits (after1 t l c) cs ∙ step-bits l.lots l.bits c
+  after_bits l [] = refl
+  after_bits l (c ∷ cs) = after_bits (after1 t l c) cs ∙ step_bits l.lots l.bits c
 
   -- a ledger never has more lots than there is room for
-  add-few : (ks : List K) (o : Option K) → length ks ≤ t.most → length (add_key t.most ks o).lots ≤ t.most
-  add-few ks None h = h
-  add-few ks (Some k) h = pick (ltb (length ks) t.most) refl
+  add_few : (ks : List K) (o : Option K) → length ks ≤ t.most → length (add_key t.most ks o).lots ≤ t.most
+  add_few ks None h = h
+  add_few ks (Some k) h = pick (ltb (length ks) t.most) refl
     where
       pick : (v : Bool) → ltb (length ks) t.most ≡ v → length (cond v (entry (ks ++ k ∷ []) (Ok (length ks + 1))) (entry ks (Err (refusal 3 [])))).lots ≤ t.most
       pick true e = let g = ltb-true (length ks) t.most e in simp length-append (omega arith)
       pick false e = h
 
-  strike-few : (ks : List K) (i : ℕ) (v : Bool) (r s : Result ℕ Refusal) → length ks ≤ t.most → length (cond v (entry (remove ks (i - 1)) r) (entry ks s)).lots ≤ t.most
-  strike-few ks i true r s h = simp (length-append, length-take, length-drop) (omega arith)
-  strike-few ks i false r s h = h
+  strike_few : (ks : List K) (i : ℕ) (v : Bool) (r s : Result ℕ Refusal) → length ks ≤ t.most → length (cond v (entry (remove ks (i - 1)) r) (entry ks s)).lots ≤ t.most
+  strike_few ks i true r s h = simp (length-append, length-take, length-drop) (omega arith)
+  strike_few ks i false r s h = h
 
-  set-few : (ks : List K) (i : ℕ) (o : Option K) → length ks ≤ t.most → length (set_key ks i o).lots ≤ t.most
-  set-few ks i None h = h
-  set-few ks i (Some k) h = pick (is_lot i (length ks))
+  set_few : (ks : List K) (i : ℕ) (o : Option K) → length ks ≤ t.most → length (set_key ks i o).lots ≤ t.most
+  set_few ks i None h = h
+  set_few ks i (Some k) h = pick (is_lot i (length ks))
     where
       pick : (v : Bool) → length (cond v (entry (set ks (i - 1) k) (Ok (length ks))) (entry ks (Err (refusal 4 [])))).lots ≤ t.most
       pick true = simp length-set h
@@ -59,43 +59,43 @@ module _ {K : Type 0} (t : Terms K) where
   cast_lots ks bs p c r true = refl
   cast_lots ks bs p c r false = refl
 
-  step-few : (ks : List K) (bs : List (List Bool)) (c : BookCall) → length ks ≤ t.most → length (step_of t ks bs c).lots ≤ t.most
+  step_few : (ks : List K) (bs : List (List Bool)) (c : BookCall) → length ks ≤ t.most → length (step_of t ks bs c).lots ≤ t.most
   unfolding step_of
-  step-few ks bs (Add f) h = add-few ks _ h
-  step-few ks bs (Strike i) h = strike-few ks i (is_lot i (length ks)) _ _ h
-  step-few ks bs (NewKey i f) h = set-few ks i _ h
-  step-few ks bs (Cast p w) h =
+  step_few ks bs (Add f) h = add_few ks _ h
+  step_few ks bs (Strike i) h = strike_few ks i (is_lot i (length ks)) _ _ h
+  step_few ks bs (NewKey i f) h = set_few ks i _ h
+  step_few ks bs (Cast p w) h =
       let e = cast_lots ks bs p (cast_sheet (sheet_of t.at_least ks) (length ks) (get_or t.rooms p 0) (min w t.work) (get_or bs p [])) (Err (refusal 0 [])) (ltb p (length t.rooms)) in
       omega (arith, ap length e)
 
   pub after_few : (l : Ledger K) (cs : List BookCall) → length l.lots ≤ t.most → length (after t l cs).lots ≤ t.most
   unfolding after after1
   after_few l [] h = h
-  after_few l (c ∷ cs) h = after_few (after1 t l c) cs (step-few l.lots l.bits c h)
+  after_few l (c ∷ cs) h = after_few (after1 t l c) cs (step_few l.lots l.bits c h)
 
-  after-many : (l : Ledger K) (cs : List BookCall) → length (after t l cs).answers ≡ length l.answers + length cs
+  after_many : (l : Ledger K) (cs : List BookCall) → length (after t l cs).answers ≡ length l.answers + length cs
   unfolding after after1
-  after-many l [] = omega arith
-  after-many l (c ∷ cs) = after-many (after1 t l c) cs ∙ simp length-append (omega arith)
+  after_many l [] = omega arith
+  after_many l (c ∷ cs) = after_many (after1 t l c) cs ∙ simp length-append (omega arith)
 
-  after-says : (l : Ledger K) (cs : List BookCall) → (rs : List (Result ℕ Refusal)) × ((after t l cs).answers ≡ l.answers ++ rs)
+  after_says : (l : Ledger K) (cs : List BookCall) → (rs : List (Result ℕ Refusal)) × ((after t l cs).answers ≡ l.answers ++ rs)
   unfolding after after1
-  after-says l [] = ([], sym (append-nil l.answers))
-  after-says l (c ∷ cs) = let a = (step_of t l.lots l.bits c).answer in let (rs, e) = after-says (after1 t l c) cs in (a ∷ rs, e ∙ append_assoc l.answers (a ∷ []) rs)
+  after_says l [] = ([], sym (append-nil l.answers))
+  after_says l (c ∷ cs) = let a = (step_of t l.lots l.bits c).answer in let (rs, e) = after_says (after1 t l c) cs in (a ∷ rs, e ∙ append_assoc l.answers (a ∷ []) rs)
 
   -- a cast that is answered by a length is accepted, and punches the sheet
-  cast-by : (ks : List K) (bs : List (List Bool)) (p n m : ℕ) (xs s : List Bool) (x y z : Refusal) (u v w : Bool) → let got : Step K = cond u (punched ks bs p (cond v (casting xs (Err x)) (cond w (casting xs (Err y)) (casting s (Ok m))))) (step ks bs (Err z)) in
+  cast_by : (ks : List K) (bs : List (List Bool)) (p n m : ℕ) (xs s : List Bool) (x y z : Refusal) (u v w : Bool) → let got : Step K = cond u (punched ks bs p (cond v (casting xs (Err x)) (cond w (casting xs (Err y)) (casting s (Ok m))))) (step ks bs (Err z)) in
       got.answer ≡ Ok n → (got ≡ step ks (set bs p s) (Ok m)) × (u ≡ true)
-  cast-by ks bs p n m xs s x y z false v w e = let z : ◌≡◌ {A = ℕ} 0 1 = cc in absurd (omega arith)
-  cast-by ks bs p n m xs s x y z true true w e = let z : ◌≡◌ {A = ℕ} 0 1 = cc in absurd (omega arith)
-  cast-by ks bs p n m xs s x y z true false true e = let z : ◌≡◌ {A = ℕ} 0 1 = cc in absurd (omega arith)
-  cast-by ks bs p n m xs s x y z true false false e = (refl, refl)
+  cast_by ks bs p n m xs s x y z false v w e = let z : ◌≡◌ {A = ℕ} 0 1 = cc in absurd (omega arith)
+  cast_by ks bs p n m xs s x y z true true w e = let z : ◌≡◌ {A = ℕ} 0 1 = cc in absurd (omega arith)
+  cast_by ks bs p n m xs s x y z true false true e = let z : ◌≡◌ {A = ℕ} 0 1 = cc in absurd (omega arith)
+  cast_by ks bs p n m xs s x y z true false false e = (refl, refl)
 
-  cast-done : (ks : List K) (bs : List (List Bool)) (p w n : ℕ) → (step_of t ks bs (Cast p w)).answer ≡ Ok n → (step_of t ks bs (Cast p w) ≡ step ks (set bs p (sheet_of t.at_least ks)) (Ok (length (sheet_of t.at_least ks)))) × (p < length t.rooms)
+  cast_done : (ks : List K) (bs : List (List Bool)) (p w n : ℕ) → (step_of t ks bs (Cast p w)).answer ≡ Ok n → (step_of t ks bs (Cast p w) ≡ step ks (set bs p (sheet_of t.at_least ks)) (Ok (length (sheet_of t.at_least ks)))) × (p < length t.rooms)
   unfolding step_of
-  cast-done ks bs p w n e =
+  cast_done ks bs p w n e =
       let s = sheet_of t.at_least ks in
-      let h = cast-by ks bs p n (length s) (get_or bs p []) s (refusal 5 []) (refusal 6 (length s ∷ [])) (refusal 0 []) (ltb p (length t.rooms)) (ltb (min w t.work) (4 * suc (length ks))) (ltb (get_or t.rooms p 0) (length s)) e in
+      let h = cast_by ks bs p n (length s) (get_or bs p []) s (refusal 5 []) (refusal 6 (length s ∷ [])) (refusal 0 []) (ltb p (length t.rooms)) (ltb (min w t.work) (4 * suc (length ks))) (ltb (get_or t.rooms p 0) (length s)) e in
       (h.0, ltb-true p (length t.rooms) h.1)
 
 module _ {K : Type 0} (p : Play K) (even : length p.before ≡ length p.terms.rooms) (by : ByTheLedger p) (f g : List BookCall) (n : ℕ) (c : CastAfter p f n g) where
@@ -103,14 +103,14 @@ module _ {K : Type 0} (p : Play K) (even : length p.before ≡ length p.terms.ro
   unfolding after
   whole_is = ap (ledger_at p) c.calls_are ∙ after_append p.terms (blank p.before) f (Cast n c.numbers ∷ g)
 
-  answer-is : (step_of p.terms (ledger_at p f).lots (ledger_at p f).bits (Cast n c.numbers)).answer ≡ Ok c.size
+  answer_is : (step_of p.terms (ledger_at p f).lots (ledger_at p f).bits (Cast n c.numbers)).answer ≡ Ok c.size
   unfolding after1
-  answer-is =
+  answer_is =
       let l = ledger_at p f in
       let a = (step_of p.terms l.lots l.bits (Cast n c.numbers)).answer in
-      let (rs, e) = after-says p.terms (after1 p.terms l (Cast n c.numbers)) g in
+      let (rs, e) = after_says p.terms (after1 p.terms l (Cast n c.numbers)) g in
       let said : p.answers ≡ l.answers ++ a ∷ rs = ap (λ (z : Ledger K). z.answers) (by ∙ whole_is) ∙ e ∙ append_assoc l.answers (a ∷ []) rs in
-      let many : length l.answers ≡ length f = after-many p.terms (blank p.before) f ∙ omega arith in
+      let many : length l.answers ≡ length f = after_many p.terms (blank p.before) f ∙ omega arith in
       sym (split_same c.earlier l.answers c.later rs (Ok c.size) a (c.in_step ∙ sym many) (sym c.answers_are ∙ said))
 
   -- the punch then holds the sheet of the keys, which the cast leaves as they are
@@ -119,9 +119,9 @@ module _ {K : Type 0} (p : Play K) (even : length p.before ≡ length p.terms.ro
   cast_is =
       let l = ledger_at p f in
       let s = sheet_of p.terms.at_least l.lots in
-      let h = cast-done p.terms l.lots l.bits n c.numbers c.size answer-is in
+      let h = cast_done p.terms l.lots l.bits n c.numbers c.size answer_is in
       let there : ledger_at p (f ++ Cast n c.numbers ∷ []) ≡ after1 p.terms l (Cast n c.numbers) = after_append p.terms (blank p.before) f (Cast n c.numbers ∷ []) in
-      let within : n < length l.bits = omega (arith, h.1, after-bits p.terms (blank p.before) f, even) in
+      let within : n < length l.bits = omega (arith, h.1, after_bits p.terms (blank p.before) f, even) in
       (ap (λ (z : Ledger K). z.lots) there ∙ ap (λ (z : Step K). z.lots) h.0, ap (λ (z : Ledger K). get_or z.bits n []) there ∙ ap (λ (z : Step K). get_or z.bits n []) h.0 ∙ get_or-set_same l.bits n s [] within)
 
 -- a list that ends in an accepted cast leaves the sheet of its lots in that punch

@@ -26,8 +26,8 @@ not_taken bits w e h said kept =
     }
 
 module _ (bits : List Bool) (lots : Option ℕ) (ps ws qs vs : List ℕ) (n : ℕ) (is : lots ≡ Some n) (by : CastByBook bits n) where
-  reply-is : (v : Bool) → enough n (length ps) (length ws) ≡ v → rebuild_reply lots (length ps) (length ws) ≡ cond v (Ok n) (Err (refusal 13 []))
-  reply-is v e = ap (λ l. rebuild_reply l (length ps) (length ws)) is ∙ ap (λ t. cond t (Ok n) (Err (refusal 13 []))) e
+  reply_is : (v : Bool) → enough n (length ps) (length ws) ≡ v → rebuild_reply lots (length ps) (length ws) ≡ cond v (Ok n) (Err (refusal 13 []))
+  reply_is v e = ap (λ l. rebuild_reply l (length ps) (length ws)) is ∙ ap (λ t. cond t (Ok n) (Err (refusal 13 []))) e
 
   -- with its room it is done
   done : (r : Result ℕ BoardFault) → answered told r ≡ Ok n → IfOk r (λ m. (b : ℕ → ℕ → Bool) → Knows b lots bits → Rewritten b m bits ps qs) → IfOk r (λ m. drop m qs ≡ drop m ps) → IfOk r (λ m. drop (4 * suc m) vs ≡ drop (4 * suc m) ws) →
@@ -51,9 +51,9 @@ module _ (bits : List Bool) (lots : Option ℕ) (ps ws qs vs : List ℕ) (n : �
       }
 
   -- without it, both lists remain
-  refused-is : (r : Result ℕ BoardFault) → answered told r ≡ Err (refusal 13 []) → IfErr r (λ _. (qs ≡ ps) × (vs ≡ ws)) → (answered told r ≡ Err (refusal 13 [])) × Untouched (returned ps ws qs vs r)
-  refused-is (Ok m) e u = absurd (let z : ◌≡◌ {A = ℕ} 0 1 = cc in omega arith)
-  refused-is (Err f) e u = (e, u)
+  refused_is : (r : Result ℕ BoardFault) → answered told r ≡ Err (refusal 13 []) → IfErr r (λ _. (qs ≡ ps) × (vs ≡ ws)) → (answered told r ≡ Err (refusal 13 [])) × Untouched (returned ps ws qs vs r)
+  refused_is (Ok m) e u = absurd (let z : ◌≡◌ {A = ℕ} 0 1 = cc in omega arith)
+  refused_is (Err f) e u = (e, u)
 
 pub taken : (bits : List Bool) (lots : Option ℕ) (ps ws qs vs : List ℕ) (m : ℕ) (r : Result ℕ BoardFault) → verdict bits ≡ Ok m → lots ≡ lots_by (verdict bits) →
     answered told r ≡ rebuild_reply lots (length ps) (length ws) → IfErr r (λ _. (qs ≡ ps) × (vs ≡ ws)) →
@@ -62,7 +62,7 @@ pub taken : (bits : List Bool) (lots : Option ℕ) (ps ws qs vs : List ℕ) (m :
 taken bits lots ps ws qs vs m r h has said kept w p q =
     let lots_are : (n : ℕ) → CastByBook bits n → lots ≡ Some n = λ n c. has ∙ ap lots_by ((cast_when bits n).1 c) in
     record {
-      written = λ n c room. done bits lots ps ws qs vs n (lots_are n c) c r (said ∙ reply-is bits lots ps ws qs vs n (lots_are n c) c true room) w p q;
-      cramped = λ n c room. refused-is bits lots ps ws qs vs n (lots_are n c) c r (said ∙ reply-is bits lots ps ws qs vs n (lots_are n c) c false room) kept;
+      written = λ n c room. done bits lots ps ws qs vs n (lots_are n c) c r (said ∙ reply_is bits lots ps ws qs vs n (lots_are n c) c true room) w p q;
+      cramped = λ n c room. refused_is bits lots ps ws qs vs n (lots_are n c) c r (said ∙ reply_is bits lots ps ws qs vs n (lots_are n c) c false room) kept;
       declined = λ e k. absurd (let z : ◌≡◌ {A = ℕ} 0 1 = cc in omega arith);
     }

@@ -11,7 +11,7 @@ use Rattle.board.specs.declared.call.BoardReply.TheVariants.{Taken}
 use Rattle.board.specs.Pages.{lots_by, Knows}
 use Rattle.board.specs.Showing.{take_answer}
 use Rattle.board.specs.Sitting.{Sitting, Sat}
-use Rattle.board.proofs.Sittings.{knows_sheet}
+use Rattle.board.proofs.Sittings.{some_order, knows_sheet}
 use Rattle.sale.specs.Promise.{Play, ledger_at, order, ByTheLedger, EqualSheets, CastByBook, TakenWhenCast, Led, Declined, ShownBy, Return, Rebuilt, Promise}
 use Rattle.sale.proofs.Histories.{after_few, cast_is, ends_in}
 use Rattle.sale.proofs.Priced.{cast_by_book}
@@ -43,14 +43,9 @@ cast_when bits n =
     let c = cast_by_book bits n in
     (λ h. c.0 (a.0 h), λ h. a.1 (c.1 h))
 
--- some order knows the bits: that of the prices that cast them, or any where there are none
-some_order : (bits : List Bool) (v : Result ℕ Refusal) → verdict bits ≡ v → (b : ℕ → ℕ → Bool) × Knows b (lots_by v) bits
-some_order bits (Ok n) e = let (few, (ps, c)) = (accepted_exactly_when_cast bits n).0 e in (beats dearer ps, (prices_strict ps, c.cast))
-some_order bits (Err e) h = (ltb, tt)
-
 module _ (bits : List Bool) (s : Sitting) (sat : (b : ℕ → ℕ → Bool) → Knows b (lots_by (verdict bits)) bits → Sat b (verdict bits) s) where
-  taken-when-cast : TakenWhenCast bits s
-  taken-when-cast f g a h n =
+  taken_when_cast : TakenWhenCast bits s
+  taken_when_cast f g a h n =
       let (b, k) = some_order bits (verdict bits) refl in
       let e = (sat b k).takes f g a h in
       let w = answer_when (verdict bits) n in
@@ -71,13 +66,13 @@ module _ (bits : List Bool) (s : Sitting) (sat : (b : ℕ → ℕ → Bool) → 
       let few : length ks ≤ 4000 = omega (arith, after_few p.terms (blank p.before) f (omega arith), h.most) in
       led b (h.ordered ks) (length ks) few cast
 
-  pub promise : {K L : Type 0} (p : Play K) (q : Play L) (w : Return) → Kept p → Kept q → Rebuilt bits w → Promise p q bits s w
-  promise p q w h k r = record {
+  pub promise : {K L : Type 0} (p : Play K) (q : Play L) (w : Return) → Kept p → Kept q → length s.answers ≡ length s.calls → Rebuilt bits w → Promise p q bits s w
+  promise p q w h k a r = record {
     first = h.by;
     second = k.by;
     equal = equal_sheets p q h k;
-    answered = let (b, known) = some_order bits (verdict bits) refl in (sat b known).all;
-    taken = taken-when-cast;
+    answered = a;
+    taken = taken_when_cast;
     led = led;
     declined = declined;
     rebuilt = r;

@@ -1,10 +1,10 @@
-use Rattle.std.proofs.Common.{ℕ, Bool, length, vec_items, sym, ◌∙◌, subst, arith}
+use Rattle.std.proofs.Common.{ℕ, Bool, length, vec_items, sym, refl, ◌∙◌, subst, arith}
 use Rattle.std.proofs.lemmas.List.{length-map}
 use Rattle.leaders.specs.Verdict.{verdict}
 use Rattle.leaders.proofs.Strictly.{keys_order_lots}
 use Rattle.board.specs.Pages.{lots_by, Knows}
 use Rattle.board.specs.Sitting.{Sat}
-use Rattle.board.proofs.Sittings.{sat}
+use Rattle.board.proofs.Sittings.{sat, some_order, all_answered}
 use Rattle.sale.specs.Promise.{played, seated, ByTheLedger}
 use Rattle.sale.proofs.Roomy.{rooms_are}
 use Rattle.sale.proofs.Whole.{Kept, promise}
@@ -35,6 +35,7 @@ returns g c =
     let second = λ (w : ℕ). played g.L.Key.made g.L.Key.at_least g.Q.Punch.room g.Q.Punch.written w c.args.other_list.now qs c.args.other_calls.now (vec_items c.play_into-second.result) c.play_into-second.new.list c.play_into-second.new.punches in
     let s = seated g.D.Panel.shows c.args.panels.now c.args.board_calls.now (vec_items c.play_into-board.result) c.play_into-board.new.panels in
     let held : (b : ℕ → ℕ → Bool) → Knows b (lots_by (verdict bits)) bits → Sat b (verdict bits) s = λ b k. sat (verdict bits) b s (c.play_into-board.ensures b k).0 (c.play_into-board.ensures b k).1 in
+    let any = some_order bits (verdict bits) refl in
     let kept : Kept first = record {
       ordered = keys_order_lots g.K.Key.at_least g.met.K.Key.total g.met.K.Key.transitive;
       even = length-map ps g.P.Punch.written ∙ sym (length-map ps g.P.Punch.room);
@@ -49,7 +50,7 @@ returns g c =
     } in
     record {
       reply = c.if-not-have_room.ensures;
-      promise = promise bits s held first (second work) _ kept also c.rebuild_from-rebuilt.ensures;
+      promise = promise bits s held first (second work) _ kept also (all_answered (verdict bits) any.0 s (c.play_into-board.ensures any.0 any.1).1) c.rebuild_from-rebuilt.ensures;
       rooms = (c.play_into-first.ensures.rooms, c.play_into-second.ensures.rooms);
       homes = (c.play_into-first.ensures.homes, c.play_into-second.ensures.homes);
       rest = c.play_into-second.ensures.rest ∙ c.play_into-first.ensures.rest;
