@@ -1,4 +1,5 @@
 //! Lists for the answers to calls. Whoever has a list of calls performed brings one, so that no memory can be wanting once the first call is made.
+#![tactic(auto)]
 
 ghost use Rattle.std.specs.Prelude.{◌≡◌, vec_len, vec_capacity};
 ghost use Rattle.answers.specs.Room.{roomy};

@@ -1,4 +1,5 @@
 //! Lists of bits: tapes, which are read, and punches, which are written.
+#![tactic(auto)]
 
 pub mod punch;
 pub mod tape;

@@ -1,4 +1,5 @@
 //! Examples at the edges of tapes, punches and packing.
+#![tactic(auto)]
 
 #[cfg(test)]
 mod punches;

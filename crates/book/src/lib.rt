@@ -1,4 +1,5 @@
 //! The book: lots come, go and change until the sale, and are then cast into a sheet.
+#![tactic(auto)]
 
 pub mod book;
 pub mod fault;

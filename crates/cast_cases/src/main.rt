@@ -1,4 +1,5 @@
 //! Tests of the book and of casting. Each line of standard input is a case, and its answer is printed on a line.
+#![tactic(auto)]
 
 use anyhow::anyhow;
 use bits::punch::{LetteredPunch, Punch};

@@ -1,4 +1,5 @@
 //! Reads prices from standard input, one a line, and tells the sheet that they cast.
+#![tactic(auto)]
 
 use bits::punch::{LetteredPunch, Punch};
 use book::book::Book;

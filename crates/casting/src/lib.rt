@@ -1,4 +1,5 @@
 //! Casting a sheet: the lots are linked into a tree, and its brackets and words are punched.
+#![tactic(auto)]
 
 ghost use Rattle.std.specs.Prelude.{◌≡◌, ℕ, suc, ◌+◌, ◌*◌, ◌^◌, ◌<◌, ◌≤◌, Bool, length, drop};
 ghost use Rattle.leaders.specs.Order.{Strict};

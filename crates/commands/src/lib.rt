@@ -1,4 +1,5 @@
 //! Commands of the hall programs: texts parted into lines, and lines read as commands.
+#![tactic(auto)]
 
 pub mod command;
 pub mod line;

@@ -1,4 +1,5 @@
 //! The hall: lines of commands in, reply lines out, for any kind of key.
+#![tactic(auto)]
 
 pub mod answer;
 pub mod program;

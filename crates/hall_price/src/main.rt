@@ -1,4 +1,5 @@
 //! The hall program for prices: commands on standard input, replies on standard output.
+#![tactic(auto)]
 
 use hall::program::run;
 use keys::price::Price;

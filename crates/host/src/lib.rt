@@ -1,4 +1,5 @@
 //! What C is offered: three functions on packed bytes, without heap or state. The crate `host_c` exports them.
+#![tactic(auto)]
 
 ghost use Rattle.std.specs.Prelude.{◌≡◌};
 ghost use Rattle.leaders.specs.Verdict.{verdict};

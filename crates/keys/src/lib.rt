@@ -1,4 +1,5 @@
 //! Kinds of key: what ranks the lots of a book.
+#![tactic(auto)]
 
 pub mod clip;
 pub mod key;

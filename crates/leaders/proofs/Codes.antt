@@ -1,5 +1,5 @@
 -- The codes of wellformed trees are prefix_free.
-use Rattle.std.proofs.Common.{◌≡◌, ℕ, zero, suc, ◌+◌, Bool, true, false, List, [], ◌∷◌, ◌++◌, refl, ap, append_assoc, arith}
+use Rattle.std.proofs.Common.{◌≡◌, ℕ, zero, suc, Bool, true, false, List, [], ◌∷◌, ◌++◌, refl, ap, append_assoc, arith}
 use Rattle.leaders.specs.Sheet.{unary, drop_last}
 use Rattle.leaders.specs.Verdict.{falses, trues}
 use Rattle.leaders.specs.Tree.{Tree, leaf, node, ls, Wellformed, counts, words, encode}

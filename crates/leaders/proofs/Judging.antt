@@ -4,7 +4,7 @@ use Rattle.std.proofs.lemmas.Bool.{cases_order, ne_eqb}
 use Rattle.leaders.specs.Order.{Strict}
 use Rattle.leaders.specs.Sheet.{spread, ranked, unary, brackets, in_l, in_r, drop_last, spine_of, spines}
 use Rattle.leaders.specs.Verdict.{verdict, closes, walk, walked, finish, falses, trues, has_too_many, lowest}
-use Rattle.leaders.specs.Tree.{Tree, leaf, node, size, ls, rs, Wellformed, counts, words, root, spine_r, spine_l, Follows}
+use Rattle.leaders.specs.Tree.{Tree, leaf, node, size, ls, rs, Wellformed, counts, root, spine_r, spine_l, Follows}
 use Rattle.leaders.specs.Theorems.{lefts, rights, overfull, Judged, Bracketed, JudgedBySpines}
 use Rattle.leaders.proofs.Trees.{spine_r_sorted, spine_l_sorted, spine_r_length, spine_l_length, has_a_tree, trees_are_wellformed}
 use Rattle.leaders.proofs.Codes.{Alike, alike_ls}

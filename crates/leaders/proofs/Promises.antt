@@ -1,5 +1,5 @@
 -- The theorems on sheets in the words of the subject, from what is shown of trees.
-use Rattle.std.proofs.Common.{◌≡◌, ℕ, ◌+◌, ◌-◌, ◌^◌, ◌<◌, ◌≤◌, Bool, true, List, [], ◌++◌, Some, None, Option, sym, refl, ap, ◌∙◌, subst, inl, inr, arith, lit<}
+use Rattle.std.proofs.Common.{◌≡◌, ℕ, ◌-◌, ◌^◌, ◌<◌, ◌≤◌, Bool, true, List, [], ◌++◌, Some, None, Option, sym, refl, ap, ◌∙◌, subst, inl, inr, arith, lit<}
 use Rattle.std.proofs.lemmas.Bool.{cases_Bool, cases_eq, cases_order, eq-eqb, ne_eqb}
 use Rattle.leaders.specs.Order.{Strict, Best, Second, IsSecond, best, second, SameLeaders, beats, dearer}
 use Rattle.leaders.specs.Sheet.{highest, parent, in_r, sheet}
@@ -10,7 +10,7 @@ use Rattle.leaders.proofs.Trees.{asym, best_one, has_a_tree, trees_are_wellforme
 use Rattle.leaders.proofs.Codes.{prefix_free}
 use Rattle.leaders.proofs.Found.{best_is, second_is}
 use Rattle.leaders.proofs.Sheets.{InR, RFromTest, test_from_R, Highest, highest_is, sheet_is_code}
-use Rattle.leaders.proofs.Same.{Agree, second_one, same_sheet_agree, agree_same_sheet}
+use Rattle.leaders.proofs.Same.{Agree, same_sheet_agree, agree_same_sheet}
 use Rattle.leaders.proofs.Rule.{second_some, second_none}
 use Rattle.leaders.proofs.Verdicts.{accepts_sheets}
 use Rattle.leaders.proofs.Merging.{prices_strict, rebuilt_prices_cast_the_sheet}

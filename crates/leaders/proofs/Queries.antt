@@ -1,5 +1,5 @@
 -- The best and the second of a range are read off the tree alone.
-use Rattle.std.proofs.Common.{◌≡◌, ℕ, ◌+◌, ◌-◌, ◌<◌, ◌≤◌, Bool, true, false, cond, ltb, leb, ◌≢◌, ◌⊎◌, List, [], ◌∷◌, refl, inl, inr, arith}
+use Rattle.std.proofs.Common.{◌≡◌, ℕ, ◌+◌, ◌<◌, ◌≤◌, Bool, true, false, cond, ltb, leb, ◌≢◌, ◌⊎◌, List, [], ◌∷◌, refl, inl, inr, arith}
 use Rattle.std.proofs.lemmas.Bool.{ltb-true, ltb-false, leb-true, leb-false, cond_both, cases_lt, cases_order}
 use Rattle.leaders.specs.Order.{Strict, Best, Second}
 use Rattle.leaders.specs.Tree.{Tree, leaf, node, size, Mem, Merged, root, spine_r, spine_l, Follows, best_of, scan, second_of}

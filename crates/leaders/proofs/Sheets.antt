@@ -1,7 +1,7 @@
 -- The sheet of an order, as it is defined, is the code of its tree.
 use Rattle.std.proofs.Common.{◌≡◌, ℕ, zero, suc, ◌+◌, ◌-◌, ◌<◌, ◌≤◌, Bool, true, false, ◌&&◌, ◌||◌, eqb, ltb, leb, ◌≢◌, ◌⊎◌, List, [], ◌∷◌, ◌++◌, map, length, sym, refl, ap, ◌∙◌, subst, ap₂, inl, inr, append_assoc, arith}
 use Rattle.std.proofs.lemmas.Bool.{ltb-true, leb-true, cond_both, cases_lt, cases_order, and_parts, and_from, or_cases, or_left, or_right, le-leb, lt-ltb, le-ltb, eqb-true, eq-eqb, cases_eq}
-use Rattle.leaders.specs.Order.{Strict, Best, beats}
+use Rattle.leaders.specs.Order.{Strict, Best}
 use Rattle.leaders.specs.Sheet.{highest, parent, tally, every, spread, insert, ranked, children, unary, is_best, in_l, in_r, full_word, drop_last, sheet}
 use Rattle.leaders.specs.Tree.{Tree, leaf, node, size, ls, counts, words, encode, Mem, Merged, root, spine_r, spine_l, Follows}
 use Rattle.leaders.proofs.Trees.{Sorted, asym, spine_r_in, spine_l_in, spine_r_sorted, spine_l_sorted, spine_l_length}

@@ -1,6 +1,7 @@
 //! Who leads a range of lots, and what a sheet says of it: definitions and theorems.
 //!
 //! Each theorem is the contract of a function here, which has nothing else to do.
+#![tactic(auto)]
 
 ghost use Rattle.leaders.specs.Theorems.{LeadersAreFound, RIsChildren, EqualSheetsExactlyWhenEqualLeaders};
 ghost use Rattle.leaders.specs.Samples.{Samples};

@@ -1,4 +1,5 @@
 //! The links of the lots of a sheet, from its bits.
+#![tactic(auto)]
 
 ghost use Rattle.std.specs.Prelude.{◌≡◌, ℕ, suc, ◌+◌, ◌-◌, ◌*◌, ◌<◌, ◌≤◌, Bool, ◌⊎◌, List, ◌++◌, length, drop, slice_index};
 ghost use Rattle.leaders.specs.Order.{Strict};

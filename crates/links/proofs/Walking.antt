@@ -2,7 +2,7 @@
 use Rattle.std.proofs.Common.{◌≡◌, ℕ, zero, suc, ◌+◌, ◌-◌, ◌*◌, ◌<◌, ◌≤◌, Bool, true, false, eqb, ◌≢◌, ◌⊎◌, List, [], ◌∷◌, ◌++◌, length, get_or, sym, refl, ap, ◌∙◌, subst, ap₂, inl, inr, arith, length-append}
 use Rattle.std.proofs.lemmas.Bool.{cond_both, cases_eq, cases_order, cases_lt, eqb-true, eqb-false, both_ways}
 use Rattle.std.proofs.lemmas.Bool.Decides.{nat_tests}
-use Rattle.leaders.specs.Tree.{Tree, leaf, node, size, counts}
+use Rattle.leaders.specs.Tree.{Tree, leaf, node, size}
 use Rattle.leaders.specs.Sheet.{unary, drop_last}
 use Rattle.leaders.specs.Order.{Strict, Best}
 use Rattle.leaders.specs.Tree.{Above, Merged, root, spine_r, spine_l, Follows}

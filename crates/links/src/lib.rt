@@ -1,6 +1,7 @@
 //! The tree of an order of lots, linked in working numbers: for each lot where it hangs, the best lot on its left and on its right, and how many children it has.
 //!
 //! What it has is for the crates that link lots and walk along the links; its functions are public for them.
+#![tactic(auto)]
 
 ghost use Rattle.std.specs.Prelude.{◌≡◌, ℕ, suc, ◌<◌, ◌≤◌, List, length, slice_index};
 ghost use Rattle.links.specs.Walks.{Chain, AtMost, Rises};

@@ -1,4 +1,5 @@
 //! Reads a lettered sheet from standard input and tells its packed bytes.
+#![tactic(auto)]
 
 use packing::report::report;
 use std::io;

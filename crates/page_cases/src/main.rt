@@ -1,4 +1,5 @@
 //! Tests of take and page. Each line of standard input is a case, and its answer is printed on a line.
+#![tactic(auto)]
 
 use anyhow::anyhow;
 use bits::tape::LetteredTape;

@@ -1,4 +1,5 @@
 //! Panels: what shows the best lot of a page, and the second.
+#![tactic(auto)]
 
 ghost use Rattle.std.specs.Prelude.{◌≡◌};
 ghost use Rattle.panel.specs.declared.shown.Shown.{Shown};

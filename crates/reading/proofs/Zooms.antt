@@ -6,7 +6,6 @@ use Rattle.leaders.specs.Sheet.{drop_last}
 use Rattle.leaders.specs.Verdict.{falses, trues}
 use Rattle.leaders.specs.Tree.{root, Follows}
 use Rattle.leaders.proofs.Trees.{trees_are_wellformed}
-use Rattle.reading.specs.Climbing.{at}
 use Rattle.reading.proofs.Climbs.{degrees, degrees_length, turns}
 
 unfoldable pub sum : List ℕ → ℕ

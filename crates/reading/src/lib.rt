@@ -1,4 +1,5 @@
 //! Reading a sheet: whether the bits of a tape are one, and who leads a range, from the bits alone.
+#![tactic(auto)]
 
 pub mod check;
 mod climb;

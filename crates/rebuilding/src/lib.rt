@@ -1,4 +1,5 @@
 //! Rebuilding prices from a sheet: the lots are linked by its bits, the orders of all parts are joined, and prices are handed out in the order of all lots.
+#![tactic(auto)]
 
 ghost use Rattle.std.specs.Prelude.{◌≡◌, ℕ, suc, ◌+◌, ◌*◌, ◌≤◌, Bool, length, drop, is_ok};
 ghost use Rattle.leaders.specs.Order.{Strict};

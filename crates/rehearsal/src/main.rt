@@ -1,4 +1,5 @@
 //! Plays one sale from beginning to end, and tells it in sentences.
+#![tactic(auto)]
 
 use answers::NoRoom;
 use anyhow::anyhow;

@@ -1,4 +1,5 @@
 //! Reply lines of the hall programs, added to what is written so far.
+#![tactic(auto)]
 
 ghost use Rattle.std.specs.Prelude.{◌≡◌, ◌++◌, map, decimal, OnOk};
 ghost use Rattle.bits.specs.Punching.{letter};

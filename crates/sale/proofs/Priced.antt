@@ -14,7 +14,7 @@ use Rattle.keys.specs.Prices.{price_at_least, price_of}
 use Rattle.casting.specs.Casts.{Casting}
 use Rattle.ledger.specs.declared.call.BookCall.TheVariants.{Cast}
 use Rattle.book.specs.Entries.{Entry, entry, add_key, sheet_of}
-use Rattle.ledger.specs.Ledger.{Terms, terms, punched, step_of, Ledger, after1, after, blank}
+use Rattle.ledger.specs.Ledger.{Terms, terms, step_of, Ledger, after1, after, blank}
 use Rattle.book.proofs.Casts.{cast_fits}
 use Rattle.board.specs.Pages.{CastBySome}
 use Rattle.sale.specs.Promise.{price, add_price, price_book, BookCasts, CastByBook}

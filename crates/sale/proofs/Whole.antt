@@ -1,10 +1,9 @@
 -- The whole promise, from the ledgers, the sitting and the rebuild, and the theorems on sheets.
-use Rattle.std.proofs.Common.{◌≡◌, ℕ, ◌≤◌, Bool, ltb, ◌↔◌, List, length, Ok, Err, Result, sym, refl, ap, ◌∙◌, subst, arith}
-use Rattle.leaders.specs.Order.{Strict, beats, dearer}
+use Rattle.std.proofs.Common.{◌≡◌, ℕ, ◌≤◌, Bool, ◌↔◌, List, length, Ok, Err, Result, sym, refl, ap, ◌∙◌, subst, arith}
+use Rattle.leaders.specs.Order.{Strict, beats}
 use Rattle.leaders.specs.Sheet.{sheet}
 use Rattle.leaders.specs.Refusal.{Refusal}
 use Rattle.leaders.specs.Verdict.{verdict}
-use Rattle.leaders.proofs.Merging.{prices_strict}
 use Rattle.leaders.proofs.Promises.{accepted_exactly_when_cast, equal_sheets_exactly_when_equal_leaders}
 use Rattle.ledger.specs.Ledger.{blank}
 use Rattle.board.specs.declared.call.BoardReply.TheVariants.{Taken}

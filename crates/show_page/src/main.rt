@@ -1,4 +1,5 @@
 //! Reads a lettered sheet and then pages, `START,SIZE` a line, from standard input, and shows each page on both panels.
+#![tactic(auto)]
 
 use anyhow::anyhow;
 use bits::tape::LetteredTape;

@@ -1,4 +1,5 @@
 //! How programs for people show a panel and tell a refusal. These functions only print, so they have no contract; the stored output of the programs holds them.
+#![tactic(auto)]
 
 use board::fault::BoardFault;
 use panel::digit_panel::DigitPanel;

@@ -1,4 +1,5 @@
 //! What the benchmark calls: pages without the take before each, and a cast into lent bytes.
+#![tactic(auto)]
 
 ghost use Rattle.timing.specs.Timed.{CastInto};
 

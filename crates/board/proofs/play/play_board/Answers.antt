@@ -1,4 +1,4 @@
-use Rattle.std.proofs.Common.{ℕ, Bool, map, length, vec_items, sym, refl, ◌∙◌, subst}
+use Rattle.std.proofs.Common.{ℕ, Bool, map, vec_items, sym, refl, ◌∙◌, subst}
 use Rattle.std.proofs.lemmas.List.{length-map}
 use Rattle.leaders.specs.Refusal.{answered}
 use Rattle.leaders.specs.Verdict.{verdict}

@@ -2,7 +2,7 @@ use Rattle.std.proofs.Common.{◌≡◌, ◌+◌, ◌<◌, true, [], ◌∷◌, 
 use Rattle.std.proofs.lemmas.List.{map_push}
 use Rattle.leaders.specs.Refusal.{answered}
 use Rattle.leaders.specs.Verdict.{verdict}
-use Rattle.board.specs.Showing.{told, showing, shows, idle}
+use Rattle.board.specs.Showing.{told, showing, idle}
 use Rattle.board.proofs.Turns.{knows_more, shows_more, turns_at, ends_at}
 use Rattle.board.proofs.play.play_into.Goals as goal
 

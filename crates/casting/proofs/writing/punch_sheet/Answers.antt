@@ -1,4 +1,4 @@
-use Rattle.std.proofs.Common.{◌+◌, ◌++◌, length, ap, ◌∙◌, arith, length-append}
+use Rattle.std.proofs.Common.{◌++◌, length, ap, ◌∙◌, arith, length-append}
 use Rattle.leaders.specs.Sheet.{sheet}
 use Rattle.links.specs.Walks.{node_brackets}
 use Rattle.leaders.specs.Sheet.{spines}

@@ -1,4 +1,4 @@
-use Rattle.std.proofs.Common.{◌≡◌, ◌+◌, ◌-◌, ◌≤◌, true, false, ◌⊎◌, ◌++◌, length, get_or, sym, refl, ◌∙◌, inl, inr, arith, length-append}
+use Rattle.std.proofs.Common.{◌≡◌, ◌-◌, ◌≤◌, true, false, ◌⊎◌, ◌++◌, length, get_or, sym, refl, ◌∙◌, inl, inr, arith, length-append}
 use Rattle.std.proofs.lemmas.List.{append-nil}
 use Rattle.links.specs.Walks.{merge}
 use Rattle.casting.proofs.Puts.{word_more, merge_length, merge_end}

@@ -21,12 +21,15 @@ returns g c =
         replied = said.replied shown st;
         owed = owed shown;
       };
-      first = λ shown st. record { next = record {
+      first = λ shown st. record {
+        next = record {
           line = c.in-Some.line.bytes.now;
           turned = said.turned shown st;
           replied = said.replied shown st;
           owed = owed shown;
-        }; first = line.lines_are };
+        };
+        first = line.lines_are;
+      };
       room = said.room;
       home = said.home;
       rest = said.rest;

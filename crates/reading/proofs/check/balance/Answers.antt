@@ -1,4 +1,4 @@
-use Rattle.std.proofs.Common.{◌≡◌, ◌+◌, ◌-◌, ◌<◌, length, drop, sym, ap, ◌∙◌, arith}
+use Rattle.std.proofs.Common.{◌≡◌, ◌+◌, ◌<◌, length, drop, sym, ap, ◌∙◌, arith}
 use Rattle.bits.proofs.Bitlists.{set_at}
 use Rattle.leaders.specs.Verdict.{close_at}
 use Rattle.reading.proofs.Checks.{close_open, close_shut, close_here, close_never, closes_not, closes_starts}

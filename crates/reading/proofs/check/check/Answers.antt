@@ -1,4 +1,4 @@
-use Rattle.std.proofs.Common.{◌-◌, Ok, sym, ap, ◌∙◌, arith}
+use Rattle.std.proofs.Common.{Ok, sym, ap, ◌∙◌, arith}
 use Rattle.leaders.specs.Verdict.{walked, finish}
 use Rattle.leaders.proofs.Verdicts.{verdict_none, verdict_many, verdict_some, finish_length, finish_bad, finish_ok}
 use Rattle.reading.proofs.Checks.{closes_bound}

@@ -1,5 +1,4 @@
 use Rattle.std.proofs.Common.{◌-◌, ◌∷◌, get_or, drop, set, sym, ap, ◌∙◌, arith}
-use Rattle.leaders.specs.Verdict.{taken}
 use Rattle.reading.proofs.Checks.{next_full, next_none, push_full, push_none}
 use Rattle.reading.proofs.check.settle.Goals as goal
 use Rattle.reading.proofs.check.settle.Goals.{then-next-stack, else-next-stack}

@@ -1,4 +1,4 @@
-use Rattle.std.proofs.Common.{◌-◌, min, arith, length-take, rules}
+use Rattle.std.proofs.Common.{min, arith, length-take, rules}
 use Rattle.book.proofs.Steps.{strike_close}
 use Rattle.book.proofs.book.Book.strike.Goals as goal
 
