@@ -1,6 +1,7 @@
 //! A whole list of takes and pages on a new board.
 
-ghost use Rattle.std.specs.Prelude.{◌≡◌, ℕ, ◌≤◌, Bool, [], map, length, IfOk, Ok, vec_capacity, OnErr};
+ghost use Rattle.std.specs.Prelude.{◌≡◌, ℕ, ◌≤◌, Bool, [], map, length, is_ok, IfOk, Ok, vec_len, vec_capacity, OnErr};
+ghost use Rattle.answers.specs.Room.{roomy};
 ghost use Rattle.leaders.specs.Order.{Strict};
 ghost use Rattle.leaders.specs.Sheet.{sheet};
 ghost use Rattle.leaders.specs.Refusal.{answered};
@@ -13,6 +14,7 @@ ghost use Rattle.board.specs.Sitting.{sitting, Sat};
 use crate::board::Board;
 use crate::call::{BoardCall, BoardReply, TurnFault};
 use crate::fault::BoardFault;
+use answers::{NoRoom, has_room};
 use bits::tape::Tape;
 use panel::Panel;
 use std::alloc::{AllocError, Global};
@@ -87,4 +89,23 @@ pub fn play_board<T: Tape + Drop, D: Panel>(
 {
     let answers = Vec::with_capacity(heap, calls.len())?;
     Ok(play_into(tape, panels, calls, answers))
+}
+
+/// The same, with the answers noted in a list that has room for them; without that nothing is played, and want of memory is never told.
+pub fn play_board_noted<T: Tape + Drop, D: Panel>(
+    tape: T,
+    panels: &mut [D],
+    calls: &[BoardCall],
+    room: Vec<Result<BoardReply, TurnFault>>,
+) -> Result<Vec<Result<BoardReply, TurnFault>>, NoRoom>
+    ensures reply { is_ok result ≡ roomy (vec_len room) (vec_capacity room) (length calls.now) }
+    ensures sat { IfOk result (λ v. (b : ℕ → ℕ → Bool) → Knows b (lots_by (verdict (T.Tape.bits tape))) (T.Tape.bits tape) → Sat b (verdict (T.Tape.bits tape)) (sitting (map D.Panel.shows panels.old) calls.now (map (answered told) v.items) (map D.Panel.shows panels.new))) }
+    ensures leads { IfOk result (λ v. (b : ℕ → ℕ → Bool) → Strict b → (n : ℕ) → n ≤ 4000 → sheet b n ≡ T.Tape.bits tape → Sat b (Ok n) (sitting (map D.Panel.shows panels.old) calls.now (map (answered told) v.items) (map D.Panel.shows panels.new))) }
+    ensures all { IfOk result (λ v. length v.items ≡ length calls.now) }
+    ensures unplayed { OnErr result (panels.new ≡ panels.old) }
+{
+    if !has_room(&room, calls.len()) {
+        return Err(NoRoom);
+    }
+    Ok(play_into(tape, panels, calls, room))
 }

@@ -1,6 +1,7 @@
 //! A whole list of calls on a new book.
 
-ghost use Rattle.std.specs.Prelude.{◌≡◌, ◌≤◌, [], map, length, take, drop, IfOk, vec_capacity, OnErr};
+ghost use Rattle.std.specs.Prelude.{◌≡◌, ◌≤◌, [], map, length, take, drop, is_ok, IfOk, vec_len, vec_capacity, OnErr};
+ghost use Rattle.answers.specs.Room.{roomy};
 ghost use Rattle.leaders.specs.Refusal.{answered};
 ghost use Rattle.book.specs.Faults.{told as book_told};
 ghost use Rattle.book.specs.Entries.{room_for};
@@ -8,6 +9,7 @@ ghost use Rattle.book.specs.Held.{keys_in};
 ghost use Rattle.ledger.specs.Ledger.{told, terms, step, step_of, ledger, after, blank};
 
 use crate::call::{BookCall, CallFault};
+use answers::{NoRoom, has_room};
 use bits::punch::Punch;
 use book::book::Book;
 use book::fault::BookFault;
@@ -90,4 +92,25 @@ pub fn play_book<K: Key + Copy, P: Punch>(
 {
     let answers = Vec::with_capacity(heap, calls.len())?;
     Ok(play_into(list, punches, work, calls, answers))
+}
+
+/// The same, with the answers noted in a list that has room for them; without that nothing is played, and want of memory is never told.
+pub fn play_book_noted<K: Key + Copy, P: Punch>(
+    list: &mut [K],
+    punches: &mut [P],
+    work: &mut [u32],
+    calls: &[BookCall],
+    room: Vec<Result<u32, CallFault>>,
+) -> Result<Vec<Result<u32, CallFault>>, NoRoom>
+    ensures reply { is_ok result ≡ roomy (vec_len room) (vec_capacity room) (length calls.now) }
+    ensures ledger { IfOk result (λ v. ledger (take (length (after (terms K.Key.made K.Key.at_least (room_for (length list.old)) (map P.Punch.room punches.old) (length work.old)) (blank (map P.Punch.written punches.old)) calls.now).lots) list.new) (map P.Punch.written punches.new) (map (answered told) v.items) ≡ after (terms K.Key.made K.Key.at_least (room_for (length list.old)) (map P.Punch.room punches.old) (length work.old)) (blank (map P.Punch.written punches.old)) calls.now) }
+    ensures rooms { map P.Punch.room punches.new ≡ map P.Punch.room punches.old }
+    ensures homes { map P.Punch.home punches.new ≡ map P.Punch.home punches.old }
+    ensures rest { drop 16004 work.new ≡ drop 16004 work.old }
+    ensures unplayed { OnErr result ((list.new ≡ list.old) × (punches.new ≡ punches.old) × (work.new ≡ work.old)) }
+{
+    if !has_room(&room, calls.len()) {
+        return Err(NoRoom);
+    }
+    Ok(play_into(list, punches, work, calls, room))
 }

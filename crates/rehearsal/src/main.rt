@@ -9,7 +9,7 @@ use board::call::{BoardCall, BoardReply};
 use book::fields::Fields;
 use keys::price::Price;
 use ledger::call::{BookCall, CallFault};
-use ledger::play::play_book;
+use ledger::play::play_book_noted;
 use panel::Panel;
 use panel::digit_panel::DigitPanel;
 use panel::line_panel::LinePanel;
@@ -191,15 +191,13 @@ fn cast_book(rt: &HostRuntime, sheet: &mut [u8]) -> anyhow::Result<usize> {
     let calls = calls_of(rt.alloc(), &PRICES)?;
     let mut list = [Price { cents: 0 }; 6];
     let mut work = [0; NUMBERS];
-    let answers = {
+    let room = Vec::with_capacity(rt.alloc(), calls.len())?;
+    let played = {
         let mut punches = [LetteredPunch::new(sheet)];
-        play_book(
-            &mut list,
-            &mut punches,
-            &mut work,
-            calls.as_slice(),
-            rt.alloc(),
-        )?
+        play_book_noted(&mut list, &mut punches, &mut work, calls.as_slice(), room)
+    };
+    let Ok(answers) = played else {
+        return Err(anyhow!("there is no room for the answers"));
     };
     let letters = sheet_of(sheet, answers.as_slice());
     tell_book(rt, "The book of the sale", &PRICES, letters)?;
