@@ -11,7 +11,7 @@ use Rattle.book.specs.Entries.{Entry, entry, room_for, sheet_of}
 use Rattle.board.specs.Pages.{lots_by, page_reply, page_shows, Knows}
 use Rattle.board.proofs.Sittings.{knows_sheet}
 use Rattle.panel.specs.declared.shown.Shown.{Shown}
-use Rattle.commands.specs.Texts.{parted, lines}
+use Rattle.commands.specs.Texts.{parted, lines, FirstLine}
 use Rattle.replies.specs.Replies.{refused_line, pair_line, cast_line, page_line}
 use Rattle.hall.specs.Halls.{Terms, terms, program_terms, Hall, hall, book_turn, cast_shown, shown_bits, cast_turn, page_of, line_turn, replies, Stands, Turned, Next}
 
@@ -101,11 +101,29 @@ session_start at_least t ks text count out rest k n o = (
   ),
 )
 
--- one line more of the replies, and the end
+-- one line more of the replies
+module _ {K : Type 0} (at_least : K → K → Bool) (t : Terms K) (all : List ℕ) where
+  pub session_more : (ks ls : List K) (shown : Option (List K)) (bits : List Bool) (before after text bytes rest : List ℕ) → FirstLine text bytes rest → Turned at_least (line_turn t (hall ks shown) bytes) ls bits → after ≡ before ++ (line_turn t (hall ks shown) bytes).reply → before ++ replies t (hall ks shown) (lines text) ≡ all →
+      (new : Option (List K)) × (Stands at_least new bits × (after ++ replies t (hall ls new) (lines rest) ≡ all))
+  unfolding replies
+  session_more ks ls shown bits before after text bytes rest first w said inv =
+      let n = line_turn t (hall ks shown) bytes in (
+        n.after.shown,
+        (
+          w.stands,
+          ap (λ z. z ++ replies t (hall ls n.after.shown) (lines rest)) said
+              ∙ ap (λ z. (before ++ n.reply) ++ replies t (hall z n.after.shown) (lines rest)) w.lots_are
+              ∙ append_assoc before n.reply (replies t n.after (lines rest))
+              ∙ ap (λ z. before ++ replies t (hall ks shown) z) (sym first.lines_are)
+              ∙ inv,
+        ),
+      )
+
+-- the same of a line that has had its turn, and the end
 module _ {K : Type 0} (t : Terms K) (all : List ℕ) where
-  pub session_more : (ks ls : List K) (shown : Option (List K)) (bits : List Bool) (before after text rest : List ℕ) → Next t (hall ks shown) text rest ls bits before after → before ++ replies t (hall ks shown) (lines text) ≡ all →
+  pub next_more : (ks ls : List K) (shown : Option (List K)) (bits : List Bool) (before after text rest : List ℕ) → Next t (hall ks shown) text rest ls bits before after → before ++ replies t (hall ks shown) (lines text) ≡ all →
       (new : Option (List K)) × (Stands t.at_least new bits × (after ++ replies t (hall ls new) (lines rest) ≡ all))
-  session_more ks ls shown bits before after text rest next inv =
+  next_more ks ls shown bits before after text rest next inv =
       let n = line_turn t (hall ks shown) next.line in (
         n.after.shown,
         (

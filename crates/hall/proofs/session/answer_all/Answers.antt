@@ -6,7 +6,7 @@ use Rattle.book.specs.Held.{keys_in}
 use Rattle.book.proofs.Steps.{take_len}
 use Rattle.commands.specs.Texts.{lines}
 use Rattle.hall.specs.Halls.{Terms, terms, hall, replies, Next}
-use Rattle.hall.proofs.Turning.{session_start, session_more, session_all}
+use Rattle.hall.proofs.Turning.{session_start, next_more, session_all}
 use Rattle.hall.proofs.session.answer_all.Goals as goal
 
 pub loop-out-init : goal.loop-out-init
@@ -36,7 +36,7 @@ loop-out-preserved g c =
     let next : Next u (hall ks shown) text rest ls bits before after = rw c.in-Some.is at (said.next shown inv.2.1.0) in (
       said.kept ∙ inv.0,
       said.room ∙ inv.1,
-      session_more t _ ks ls shown bits before after text rest (subst (λ (z : Terms _). Next z (hall ks shown) text rest ls bits before after) same next) inv.2.1.1,
+      next_more t _ ks ls shown bits before after text rest (subst (λ (z : Terms _). Next z (hall ks shown) text rest ls bits before after) same next) inv.2.1.1,
     )
 
 pub returns : goal.returns
