@@ -1,4 +1,4 @@
-use Rattle.std.proofs.Common.{ℕ, Bool, map, length, vec_items, vec_len, vec_capacity, sym, refl, ◌∙◌, subst}
+use Rattle.std.proofs.Common.{ℕ, Bool, map, length, vec_items, vec_len, vec_capacity, sym, refl, ◌∙◌, subst, arith}
 use Rattle.std.proofs.lemmas.List.{length-map}
 use Rattle.answers.proofs.Rooms.{room_is}
 use Rattle.leaders.specs.Refusal.{answered}
@@ -13,7 +13,7 @@ pub play_into-requires : goal.play_into-requires
 play_into-requires g c =
     let v = c.args.room in
     let room = room_is (vec_items v) (vec_len v) (vec_capacity v) (length c.args.calls.now) v.ok.0 c.if-not-has_room.ensures in
-    record { empty = room.0; room = room.1 }
+    record { empty = room.0; room = omega (arith, room.1) }
 
 pub returns : goal.returns
 returns g c =

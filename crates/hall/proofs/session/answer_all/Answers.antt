@@ -1,4 +1,4 @@
-use Rattle.std.proofs.Common.{◌≡◌, ◌-◌, [], length, take, is_err, None, vec_items, refl, ap, ◌∙◌, subst, arith, length-take}
+use Rattle.std.proofs.Common.{◌≡◌, ◌-◌, ◌<◌, [], length, take, is_err, None, vec_items, refl, ap, ◌∙◌, subst, arith, length-take}
 use Rattle.std.proofs.lemmas.Result.{err_from_is_err_and, IfOk-from_err}
 use Rattle.bits.specs.Punching.{letters, letter_room}
 use Rattle.book.specs.Entries.{room_for}
@@ -15,7 +15,9 @@ loop-out-init g c =
     (refl, refl, session_start g.K.Key.at_least t (keys_in c.new-book.result) c.new-punch.result.text.now c.new-punch.result.count (vec_items c.new-out.result) _ c.new-book.ensures.empty c.new-punch.ensures.none c.new-out.ensures.items)
 
 pub loop-out-smaller : goal.loop-out-smaller
-loop-out-smaller g c = rw c.in-Some.is at c.in_ok-after.ensures.shorter
+loop-out-smaller g c =
+    let h : length c.in-Some.after.now < length c.loop-out.rest.now = rw c.in-Some.is at c.in_ok-after.ensures.shorter in
+    omega (arith, h)
 
 pub loop-out-preserved : goal.loop-out-preserved
 loop-out-preserved g c =

@@ -18,7 +18,7 @@ returns-then-end-len g c =
     let bs = g.T.Tape.bits c.args.tape.now in
     sym (verdict_some bs c.in-Some.m (sym c.balance.ensures ∙ c.in-Some.is) c.if-m-gt8002.false
     ∙ ap (finish bs c.in-Some.m) (sym c.walk_over-end.ensures)
-    ∙ finish_length bs c.in-Some.m (walked c.walk_over-end.result.at c.walk_over-end.result.bad) (λ h. c.if-end-len.true (h ∙ sym c.len.ensures.is)))
+    ∙ finish_length bs c.in-Some.m (walked c.walk_over-end.result.at c.walk_over-end.result.bad) (λ h. omega (arith, h, c.len.ensures.is)))
 
 pub returns-then-end-ne0 : goal.returns-then-end-ne0
 returns-then-end-ne0 g c =

@@ -13,17 +13,17 @@ use Rattle.sale.proofs.rehearsal.rehearse.Goals as goal
 pub play_into-first-requires : goal.play_into-first-requires
 play_into-first-requires g c =
     let room = (rooms_are c.args.lists (length c.args.calls.now) (length c.args.other_calls.now) (length c.args.board_calls.now) c.if-not-have_room.ensures).for_first in
-    record { empty = room.0; room = room.1 }
+    record { empty = room.0; room = omega (arith, room.1) }
 
 pub play_into-second-requires : goal.play_into-second-requires
 play_into-second-requires g c =
     let room = (rooms_are c.args.lists (length c.args.calls.now) (length c.args.other_calls.now) (length c.args.board_calls.now) c.if-not-have_room.ensures).for_second in
-    record { empty = room.0; room = room.1 }
+    record { empty = room.0; room = omega (arith, room.1) }
 
 pub play_into-board-requires : goal.play_into-board-requires
 play_into-board-requires g c =
     let room = (rooms_are c.args.lists (length c.args.calls.now) (length c.args.other_calls.now) (length c.args.board_calls.now) c.if-not-have_room.ensures).for_board in
-    record { empty = room.0; room = room.1 }
+    record { empty = room.0; room = omega (arith, room.1) }
 
 pub returns : goal.returns
 returns g c =
