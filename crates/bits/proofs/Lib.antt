@@ -1,2 +1,5 @@
+pub mod Between
 pub mod Bitlists
+pub mod Going
 pub mod Letters
+pub mod Places

@@ -1,5 +1,5 @@
 -- Lists of bits: the bit at a place, how many are ones, and where.
-use Rattle.std.specs.Prelude.{◌≡◌, ℕ, ◌+◌, ◌<◌, Bool, true, false, ◌⊎◌, List, [], ◌∷◌, map, take, Some, None, Option, ◌==◌}
+use Rattle.std.specs.Prelude.{◌≡◌, ℕ, ◌+◌, ◌<◌, Bool, true, false, ◌⊎◌, List, [], ◌∷◌, map, take, drop, Some, None, Option, ◌==◌}
 use Rattle.std.specs.List.{slice_get}
 
 -- a bit as a number
@@ -33,3 +33,7 @@ is_open b = b == 40
 -- a text as bits: 32,768 bytes count at most
 abbrev pub lettered : List ℕ → List Bool
 lettered text = map is_open (take 32768 text)
+
+-- the bits from place `from` on and before place `upto`, as far as there are any
+abbrev pub bits_between : List Bool → ℕ → ℕ → List Bool
+bits_between bs from upto = drop from (take upto bs)

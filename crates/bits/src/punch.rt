@@ -2,12 +2,12 @@
 
 ghost use Rattle.std.specs.Prelude.{◌≡◌, ℕ, ◌≤◌, Bool, List, [], length};
 ghost use Rattle.bits.specs.Bits.{lettered};
-ghost use Rattle.bits.specs.Punching.{Appends, Lettered, letters, letter_room};
+ghost use Rattle.bits.specs.Punching.{Appends, Lettered, letter, letters, letter_room};
 
 use crate::tape::{LetteredTape, MOST_BITS};
 
 /// The capacity is reached: there is no room for another bit.
-#[derive(Clone, Copy)]
+#[derive(Clone, Copy, PartialEq, Eq, Debug)]
 pub struct Full;
 
 /// The bits written so far, and a fixed capacity.
@@ -41,6 +41,13 @@ pub trait Punch {
         ensures bits { Appends result (room self.old) (written self.old) (written self.new) bit }
         ensures room { room self.new ≡ room self.old }
         ensures home { home self.new ≡ home self.old };
+}
+
+/// The letter of a bit: `(` for 1 and `)` for 0.
+pub fn letter_of(bit: bool) -> u8
+    ensures { result ≡ letter bit }
+{
+    if bit { b'(' } else { b')' }
 }
 
 /// One letter to a bit in lent bytes, 32,768 at most: `(` for 1 and `)` for 0.
@@ -82,7 +89,7 @@ impl<'a> Punch for LetteredPunch<'a> {
         ensures bytes { Lettered result self.old.text.now self.old.count bit self.new.text.now self.new.count }
     {
         if self.count < self.capacity() {
-            self.text[self.count] = if bit { b'(' } else { b')' };
+            self.text[self.count] = letter_of(bit);
             self.count += 1;
             Ok(())
         } else {

@@ -25,52 +25,27 @@ pub trait Tape {
     fn rank(&self, p: usize) -> usize
         ensures { result ≡ rank_of (bits self.now) p }
     {
-        let end = p.min(self.len());
-        let mut count = 0;
-        for i in 0..end {
-            if self.get(i).unwrap_or(false) {
-                count += 1;
-            }
-        }
-        count
+        (0..p.min(self.len()))
+            .filter(|i| self.get(*i) == Some(true))
+            .count()
     }
 
     /// The place of the `j`-th one, counted from 1: absent if `j` is 0 or too large.
     fn select(&self, j: usize) -> Option<usize>
         ensures { Select (bits self.now) j result }
     {
-        if j == 0 {
-            return None;
-        }
-        let mut left = j;
-        for i in 0..self.len() {
-            if self.get(i).unwrap_or(false) {
-                left -= 1;
-                if left == 0 {
-                    return Some(i);
-                }
-            }
-        }
-        None
+        (0..self.len())
+            .filter(|p| self.get(*p) == Some(true))
+            .nth(j.checked_sub(1)?)
     }
 
     /// The place of the `j`-th zero, counted from 1: absent if `j` is 0 or too large.
     fn select_zero(&self, j: usize) -> Option<usize>
         ensures { Select (map not (bits self.now)) j result }
     {
-        if j == 0 {
-            return None;
-        }
-        let mut left = j;
-        for p in 0..self.len() {
-            if !self.get(p).unwrap_or(true) {
-                left -= 1;
-                if left == 0 {
-                    return Some(p);
-                }
-            }
-        }
-        None
+        (0..self.len())
+            .filter(|p| self.get(*p) == Some(false))
+            .nth(j.checked_sub(1)?)
     }
 }
 

@@ -18,10 +18,7 @@ impl<T: Tape> Tape for Flipped<T> {
     }
 
     fn get(&self, p: usize) -> Option<bool> {
-        match self.below.get(p) {
-            Some(b) => Some(!b),
-            None => None,
-        }
+        self.below.get(p).map(|bit| !bit)
     }
 
     fn rank(&self, p: usize) -> usize {

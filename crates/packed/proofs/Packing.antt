@@ -1,6 +1,7 @@
 -- Lemmas on bits in bytes: reads, counts and writes.
 use Rattle.std.proofs.Common.{◌≡◌, ℕ, zero, suc, ◌+◌, ◌-◌, ◌*◌, ◌/◌, ◌%◌, ◌^◌, ◌<◌, ◌≤◌, min, Bool, true, false, eqb, List, [], ◌∷◌, ◌++◌, length, get_or, take, set, replicate, Some, sym, refl, ap, ◌∙◌, subst, ap₂, mul_assoc, div-one, add-one, one-add, arith}
 use lib.Count as count
+use Rattle.std.specs.Int.{from_bool}
 use Rattle.std.specs.List.{slice_get}
 use Rattle.std.proofs.lemmas.Nat.{shr-shr, shr_below, shr_le, shl_whole, pow-add}
 use Rattle.std.proofs.lemmas.List.{take-append-le, take_at, append_assoc, append-nil, replicate_more, length_push, length-take, take-take, take_all}
@@ -143,6 +144,11 @@ pub rank_packed : (bytes : List ℕ) (n p : ℕ) → p ≤ min n 32768 → rank_
 rank_packed bytes n p h = ap ones (take-take p (min n 32768) (all_bits bytes) h)
 
 -- ---- writes
+
+-- a bit as a byte
+pub bit_byte : (b : Bool) → from_bool b ≡ one b
+bit_byte true = refl
+bit_byte false = refl
 
 one_le : (c : Bool) → one c ≤ 1
 one_le true = omega arith

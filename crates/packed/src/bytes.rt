@@ -30,8 +30,8 @@ pub(crate) fn ones_before(bytes: &[u8], end: usize) -> usize
 {
     let whole = end / 8;
     let mut count = 0;
-    for i in 0..whole {
-        count += bytes[i].count_ones() as usize;
+    for byte in &bytes[0..whole] {
+        count += byte.count_ones() as usize;
     }
     let rest = end % 8;
     if rest > 0 {
@@ -55,8 +55,8 @@ pub(crate) fn pass_zeros(bytes: &[u8], whole: usize, j: usize) -> Passed
     ensures few { result.zeros < j }
 {
     let mut zeros = 0;
-    for i in 0..whole {
-        let more = zeros + 8 - bytes[i].count_ones() as usize;
+    for (i, byte) in bytes[0..whole].iter().enumerate() {
+        let more = zeros + 8 - byte.count_ones() as usize;
         if more >= j {
             return Passed { bytes: i, zeros };
         }
@@ -74,7 +74,6 @@ pub(crate) fn put_bit(bytes: &mut [u8], p: usize, bit: bool)
     ensures { bytes.new ≡ slice_set bytes.old (p / 8) (put_bit (slice_index bytes.old (p / 8)) (p % 8) bit) }
 {
     let low = 7 - p % 8;
-    let high = (bytes[p / 8] >> low) / 2 * 2;
-    let top = if bit { high + 1 } else { high };
+    let top = (bytes[p / 8] >> low) / 2 * 2 + u8::from(bit);
     bytes[p / 8] = top << low;
 }

@@ -37,15 +37,8 @@ impl<'a> Tape for PackedTape<'a> {
         }
         let n = self.len();
         let passed = pass_zeros(self.bytes, n / 8, j);
-        let mut left = j - passed.zeros;
-        for i in 8 * passed.bytes..n {
-            if !bit_at(self.bytes, i) {
-                left -= 1;
-                if left == 0 {
-                    return Some(i);
-                }
-            }
-        }
-        None
+        (8 * passed.bytes..n)
+            .filter(|p| self.get(*p) == Some(false))
+            .nth(j - 1 - passed.zeros)
     }
 }

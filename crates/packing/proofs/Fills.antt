@@ -1,26 +1,9 @@
--- Bits packed into bytes, one more at a time; lists that are equal bit by bit.
-use Rattle.std.proofs.Common.{◌≡◌, ℕ, suc, ◌+◌, ◌-◌, ◌*◌, ◌/◌, ◌%◌, ◌<◌, min, Bool, false, List, [], ◌∷◌, ◌++◌, length, get_or, take, drop, set, replicate, Some, unwrap_or, sym, refl, ap, ◌∙◌, subst, ap₂, arith}
-use Rattle.std.specs.List.{slice_get}
-use Rattle.std.proofs.lemmas.List.{append_assoc, take_all, take_more, drop-drop, drop-set-lt, length_push}
-use Rattle.std.proofs.lemmas.Option.{slice_get-get_or}
+-- Bits packed into bytes, one more at a time.
+use Rattle.std.proofs.Common.{◌≡◌, ℕ, ◌+◌, ◌-◌, ◌*◌, ◌/◌, ◌%◌, ◌<◌, min, Bool, false, List, [], ◌∷◌, ◌++◌, length, get_or, take, drop, set, replicate, sym, ap, ◌∙◌, subst, ap₂, arith}
+use Rattle.std.proofs.lemmas.List.{append_assoc, drop-drop, drop-set-lt, length_push}
 use Rattle.packed.specs.Packed.{all_bits, packed, packed_room, put_bit}
 use Rattle.packed.proofs.Packing.{put_fills, packed_put}
 use Rattle.packing.specs.Packs.{bytes_for, PackedInto}
-
--- lists of one length that are equal at each place
-pub same_bits : (xs ys : List Bool) → length xs ≡ length ys → ((k : ℕ) → k < length xs → slice_get xs k ≡ slice_get ys k) → xs ≡ ys
-same_bits [] [] e h = refl
-same_bits [] (y ∷ ys) e h = absurd (omega arith)
-same_bits (x ∷ xs) [] e h = absurd (omega arith)
-same_bits (x ∷ xs) (y ∷ ys) e h =
-    let f : Some x ≡ Some y = h 0 (omega arith) in
-    ap₂ ◌∷◌ (cc) (same_bits xs ys (omega arith) (λ k l. h (suc k) (omega arith)))
-
--- one bit more of a list
-pub take_bit : (bs : List Bool) (i : ℕ) (c : Bool) → i < length bs → c ≡ unwrap_or (slice_get bs i) false → take (i + 1) bs ≡ take i bs ++ c ∷ []
-take_bit bs i c h e =
-    let f : c ≡ get_or bs i false = e ∙ ap (λ o. unwrap_or o false) (slice_get-get_or bs i false h) in
-    take_more bs i false h ∙ ap (λ x. take i bs ++ x ∷ []) (sym f)
 
 -- the bytes that are left alone by a bit more
 rest_more : (n : ℕ) (before now new : List ℕ) (v : ℕ) → new ≡ set now (n / 8) v → drop (bytes_for n) now ≡ drop (bytes_for n) before → drop (bytes_for (n + 1)) new ≡ drop (bytes_for (n + 1)) before
@@ -55,10 +38,10 @@ fills_more bs n c before now new p h e =
     }
 
 -- all bits
-pub fills_all : (bs : List Bool) (n i : ℕ) (first before now last : List ℕ) → PackedInto (take i bs) i before now → i ≡ n → n ≡ length bs → before ≡ first → last ≡ now → PackedInto bs n first last
-fills_all bs n i first before now last p e l f g =
-    let a : PackedInto (take n bs) n before now = subst (λ (k : ℕ). PackedInto (take k bs) k before now) e p in
-    let b : PackedInto bs n before now = subst (λ (xs : List Bool). PackedInto xs n before now) (take_all n bs (omega arith)) a in
+pub fills_all : (bs : List Bool) (n : ℕ) (xs : List Bool) (first before now last : List ℕ) → PackedInto xs (length xs) before now → xs ≡ bs → n ≡ length bs → before ≡ first → last ≡ now → PackedInto bs n first last
+fills_all bs n xs first before now last p e l f g =
+    let a : PackedInto bs (length bs) before now = subst (λ (ys : List Bool). PackedInto ys (length ys) before now) e p in
+    let b : PackedInto bs n before now = subst (λ (k : ℕ). PackedInto bs k before now) (sym l) a in
     let c : PackedInto bs n first now = subst (λ (x : List ℕ). PackedInto bs n x now) f b in
     subst (λ (x : List ℕ). PackedInto bs n first x) (sym g) c
 

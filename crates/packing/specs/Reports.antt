@@ -3,9 +3,8 @@ use Rattle.std.specs.Prelude.{◌≡◌, ℕ, ◌+◌, ◌/◌, ◌%◌, Bool, t
 use Rattle.std.specs.List.{flat_map}
 use Rattle.bits.specs.Bits.{ones, lettered}
 use Rattle.packing.specs.Packs.{bytes_for, PackedInto}
-use Rattle.packing.specs.Texts.{trimmed, LetteredSheet, Faulty}
+use Rattle.packing.specs.Texts.{trimmed, LetteredSheet, Faulty, text_of_fault}
 use Rattle.packing.specs.declared.letters.LetterFault.{LetterFault}
-use Rattle.packing.specs.declared.letters.LetterFault.TheVariants.{Empty, TooLong, Stray}
 
 -- a hexadecimal digit: 0 to 9, A to F
 abbrev pub hex_letter : ℕ → ℕ
@@ -33,12 +32,6 @@ text_of_sizes bits ones bytes digits same =
 abbrev pub load_text : List Bool → List ℕ → List ℕ
 load_text bits bytes =
     text_of_sizes (length bits) (ones bits) (bytes_for (length bits)) (flat_map hex_byte (take (bytes_for (length bits)) bytes)) true
-
--- what is printed of a text that is no sheet
-abbrev pub text_of_fault : LetterFault → List ℕ
-text_of_fault Empty = codes "The sheet is empty. Nothing is packed.\n"
-text_of_fault TooLong = codes "The sheet has more than 32768 letters. Nothing is packed.\n"
-text_of_fault (Stray p) = codes "The character at place " ++ decimal p ++ codes ", counted from 0, is neither ( nor ). Nothing is packed.\n"
 
 -- the bits are packed into 4,096 bytes, zeros at first, and that is printed
 abbrev pub Loaded : List Bool → List ℕ → Type 0

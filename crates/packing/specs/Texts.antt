@@ -1,5 +1,5 @@
 -- Which texts are lettered sheets, and what is wrong with the others.
-use Rattle.std.specs.Prelude.{◌≡◌, ℕ, ◌-◌, ◌<◌, ◌≤◌, Bool, true, false, cond, ◌||◌, List, [], length, take, ◌==◌, slice_index}
+use Rattle.std.specs.Prelude.{◌≡◌, ℕ, ◌-◌, ◌<◌, ◌≤◌, Bool, true, false, cond, ◌||◌, List, [], ◌++◌, length, take, codes, decimal, ◌==◌, slice_index}
 use Rattle.packing.specs.declared.letters.LetterFault.{LetterFault}
 use Rattle.packing.specs.declared.letters.LetterFault.TheVariants.{Empty, TooLong, Stray}
 
@@ -24,3 +24,9 @@ abbrev pub Faulty : List ℕ → LetterFault → Type 0
 Faulty text Empty = text ≡ []
 Faulty text TooLong = 32768 < length text
 Faulty text (Stray p) = (length text ≤ 32768) × (p < length text) × (is_letter (slice_index text p) ≡ false) × LettersBefore text p
+
+-- what is printed of a text that is no sheet
+abbrev pub text_of_fault : LetterFault → List ℕ
+text_of_fault Empty = codes "The sheet is empty. Nothing is packed.\n"
+text_of_fault TooLong = codes "The sheet has more than 32768 letters. Nothing is packed.\n"
+text_of_fault (Stray p) = codes "The character at place " ++ decimal p ++ codes ", counted from 0, is neither ( nor ). Nothing is packed.\n"

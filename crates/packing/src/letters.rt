@@ -1,10 +1,12 @@
 //! The letters of a sheet, read off a text.
 
-ghost use Rattle.std.specs.Prelude.{◌≡◌, MatchResult};
-ghost use Rattle.packing.specs.Texts.{trimmed, LetteredSheet, Faulty};
+ghost use Rattle.std.specs.Prelude.{◌≡◌, Some, MatchResult};
+ghost use Rattle.packing.specs.Texts.{trimmed, LetteredSheet, Faulty, text_of_fault};
+
+use std::fmt;
 
 /// Why a text is no lettered sheet. The first that applies is told, in this order.
-#[derive(Clone, Copy)]
+#[derive(Clone, Copy, PartialEq, Eq, Debug)]
 pub enum LetterFault {
     /// There is no letter.
     Empty,
@@ -14,6 +16,23 @@ pub enum LetterFault {
     Stray(usize),
 }
 
+impl fmt::Display for LetterFault {
+    ghost output = { λ fault. Some (text_of_fault fault) };
+
+    fn fmt<W: fmt::Write>(&self, f: &mut fmt::Formatter<W>) -> fmt::Result {
+        match self {
+            LetterFault::Empty => f.write_str("The sheet is empty. Nothing is packed.\n"),
+            LetterFault::TooLong => {
+                f.write_str("The sheet has more than 32768 letters. Nothing is packed.\n")
+            }
+            LetterFault::Stray(place) => write!(
+                f,
+                "The character at place {place}, counted from 0, is neither ( nor ). Nothing is packed.\n"
+            ),
+        }
+    }
+}
+
 /// The most letters of a sheet.
 const MOST_LETTERS: usize = 32_768;
 
@@ -21,11 +40,9 @@ const MOST_LETTERS: usize = 32_768;
 fn without_line_feed(text: &[u8]) -> &[u8]
     ensures { result.now ≡ trimmed text.now }
 {
-    let n = text.len();
-    if n > 0 && text[n - 1] == b'\n' {
-        &text[0..n - 1]
-    } else {
-        text
+    match text {
+        [letters @ .., b'\n'] => letters,
+        _ => text,
     }
 }
 
@@ -40,10 +57,8 @@ pub fn letters_of(text: &[u8]) -> Result<&[u8], LetterFault>
     if letters.len() > MOST_LETTERS {
         return Err(LetterFault::TooLong);
     }
-    for (i, b) in letters.iter().enumerate() {
-        if *b != b'(' && *b != b')' {
-            return Err(LetterFault::Stray(i));
-        }
+    match letters.iter().position(|b| *b != b'(' && *b != b')') {
+        Some(place) => Err(LetterFault::Stray(place)),
+        None => Ok(letters),
     }
-    Ok(letters)
 }

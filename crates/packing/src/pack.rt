@@ -5,6 +5,7 @@ ghost use Rattle.bits.specs.Bits.{ones};
 ghost use Rattle.packed.specs.Packed.{packed_room};
 ghost use Rattle.packing.specs.Packs.{bytes_for, PackedInto};
 
+use bits::iter::Bits;
 use bits::punch::{Full, Punch};
 use bits::tape::Tape;
 use packed::punch::PackedPunch;
@@ -40,8 +41,8 @@ pub fn pack<T: Tape>(tape: &T, bytes: &mut [u8]) -> Result<usize, Full>
     if punch.capacity() < n {
         return Err(Full);
     }
-    for i in 0..n {
-        punch.append(tape.get(i).unwrap_or(false))?;
+    for bit in Bits::of(tape) {
+        punch.append(bit)?;
     }
     Ok(n)
 }

@@ -1,24 +1,14 @@
-use Rattle.std.proofs.Common.{◌≡◌, ◌≤◌, length, inr, arith}
-use Rattle.bits.proofs.Bitlists.{rank_yes, rank_no, rank_past, set_at}
+use Rattle.std.proofs.Common.{◌-◌, true, rules, tests, arith}
+use Rattle.std.proofs.lemmas.Iterator.{YieldsList-from_range}
+use Rattle.std.proofs.lemmas.Iterator.Consumers.{nth_from_yields_List, YieldsList-from_filter}
+use Rattle.bits.proofs.Places.{is_at, ones_at, filtered_select}
 use Rattle.bits.proofs.tape.Tape.select.Goals as goal
-use Rattle.bits.proofs.tape.Tape.select.Goals.{then-unwrap_or+else-left-eq0, else-unwrap_or}
-
-pub loop-i-preserved : goal.loop-i-preserved
-loop-i-preserved g c =
-    let bs = g.Self.Tape.bits c.args.self.now in
-    let b = c.unwrap_or.result in
-    let e : b ≡ set_at bs c.loop-i.i = cc in
-    elim c.if-unwrap_or.branch [
-      | then-unwrap_or+else-left-eq0 w ↦
-          let m = rank_yes bs c.loop-i.i b e w.if-unwrap_or.true in
-          (omega (arith, m), omega arith)
-      | else-unwrap_or w ↦
-          let m = rank_no bs c.loop-i.i b e w.if-unwrap_or.false in
-          (omega (arith, m), omega arith)
-    ]
 
 pub returns : goal.returns
 returns g c =
     let bs = g.Self.Tape.bits c.args.self.now in
-    let h : length bs ≤ c.loop-i.i = omega (arith, c.len-i-end.ensures.is) in
-    inr (omega (arith, rank_past bs c.loop-i.i h))
+    let n = c.len.result in
+    let k = c.in_ok-checked_sub.field-0 in
+    filtered_select (is_at bs true) bs 0 n c.args.j k c.nth.result c.len.ensures.is (λ i h. ones_at bs i (omega (arith, c.len.ensures.is))) (omega (arith, c.in_ok-checked_sub.ensures {u = tt}))
+    (nth_from_yields_List c.nth.result c.nth.new.self k c.nth.ensures.ran
+    (YieldsList-from_filter _ (is_at bs true) (YieldsList-from_range 0 n (n - 0) c.filter.ensures.source (omega arith)) c.filter.ensures.closure (λ x r q k. search (rules, tests))))

@@ -1,34 +1,15 @@
-use Rattle.std.proofs.Common.{◌≡◌, ◌<◌, ◌≤◌, true, false, not, map, length, unwrap_or, inr, arith}
-use Rattle.std.specs.List.{slice_get}
+use Rattle.std.proofs.Common.{◌-◌, false, not, map, ◌∙◌, sym, rules, tests, arith}
 use Rattle.std.proofs.lemmas.List.{length-map}
-use Rattle.bits.proofs.Bitlists.{zero_yes, zero_no, rank_past}
+use Rattle.std.proofs.lemmas.Iterator.{YieldsList-from_range}
+use Rattle.std.proofs.lemmas.Iterator.Consumers.{nth_from_yields_List, YieldsList-from_filter}
+use Rattle.bits.proofs.Places.{is_at, zeros_at, filtered_select}
 use Rattle.bits.proofs.tape.Tape.select_zero.Goals as goal
-use Rattle.bits.proofs.tape.Tape.select_zero.Goals.{then-not-unwrap_or+else-left-eq0, else-not-unwrap_or}
-
-pub returns-then-left-eq0 : goal.returns-then-left-eq0
-returns-then-left-eq0 g c =
-    let bs = g.Self.Tape.bits c.args.self.now in
-    let i = c.loop-p.p in
-    let h : i < length bs = omega (arith, c.len-p-end.ensures.is) in
-    let e : unwrap_or (slice_get bs i) true ≡ false = cc in
-    ((zero_yes bs i h e).0, omega arith)
-
-pub loop-p-preserved : goal.loop-p-preserved
-loop-p-preserved g c =
-    let bs = g.Self.Tape.bits c.args.self.now in
-    let i = c.loop-p.p in
-    let h : i < length bs = omega (arith, c.len-p-end.ensures.is) in
-    elim c.if-not-unwrap_or.branch [
-      | then-not-unwrap_or+else-left-eq0 w ↦
-          let e : unwrap_or (slice_get bs i) true ≡ false = cc w.if-not-unwrap_or.true in
-          (omega (arith, (zero_yes bs i h e).1), omega arith)
-      | else-not-unwrap_or w ↦
-          let e : unwrap_or (slice_get bs i) true ≡ true = cc w.if-not-unwrap_or.false in
-          (omega (arith, zero_no bs i e), omega arith)
-    ]
 
 pub returns : goal.returns
 returns g c =
     let bs = g.Self.Tape.bits c.args.self.now in
-    let h : length bs ≤ c.loop-p.p = omega (arith, c.len-p-end.ensures.is) in
-    inr (omega (arith, rank_past (map not bs) c.loop-p.p (omega (arith, length-map bs not))))
+    let n = c.len.result in
+    let k = c.in_ok-checked_sub.field-0 in
+    filtered_select (is_at bs false) (map not bs) 0 n c.args.j k c.nth.result (c.len.ensures.is ∙ sym (length-map bs not)) (λ i h. zeros_at bs i (omega (arith, c.len.ensures.is))) (omega (arith, c.in_ok-checked_sub.ensures {u = tt}))
+    (nth_from_yields_List c.nth.result c.nth.new.self k c.nth.ensures.ran
+    (YieldsList-from_filter _ (is_at bs false) (YieldsList-from_range 0 n (n - 0) c.filter.ensures.source (omega arith)) c.filter.ensures.closure (λ x r q k. search (rules, tests))))

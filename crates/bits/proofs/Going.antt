@@ -1,0 +1,29 @@
+-- Lemmas on a `for` over the items that an iterator has left: those that have come, this one, and all at the end.
+use Rattle.std.proofs.Common.{◌≡◌, ◌<◌, List, [], ◌∷◌, ◌++◌, Some, None, Option, length, sym, ap, ◌∙◌, subst, arith}
+use Rattle.std.specs.Iterator.{Yields, YieldsFirst}
+use Rattle.std.proofs.lemmas.List.{append-nil, length-append}
+
+module _ {S A : Type 0} (rest : S → List A) (s t : S) (xs : List A) (came : Yields (YieldsFirst rest) s xs t) where
+  -- what has come, and what is left
+  pub so_far : rest s ≡ xs ++ rest t
+  so_far = go s xs came
+    where
+      go : (s : S) (xs : List A) → Yields (YieldsFirst rest) s xs t → rest s ≡ xs ++ rest t
+      go s [] y = ap rest y
+      go s (x ∷ xs) y = y.1 ∙ ap (λ l. x ∷ l) (go y.0 xs y.2)
+
+  -- this item stands behind those that have come
+  pub this_one : (r : Option A) (u : S) (x : A) → r ≡ Some x → YieldsFirst rest t r u → rest s ≡ xs ++ x ∷ rest u
+  this_one r u x e y =
+      let f : rest t ≡ x ∷ rest u = subst (λ (o : Option A). YieldsFirst rest t o u) e y in
+      so_far ∙ ap (λ l. xs ++ l) f
+
+  -- so fewer have come than there were
+  pub not_all : (r : Option A) (u : S) (x : A) → r ≡ Some x → YieldsFirst rest t r u → length xs < length (rest s)
+  not_all r u x e y = omega (arith, ap length (this_one r u x e y), length-append xs (x ∷ rest u))
+
+  -- at the end all have come
+  pub all_came : (r : Option A) (u : S) → r ≡ None → YieldsFirst rest t r u → xs ≡ rest s
+  all_came r u e y =
+      let f : (rest t ≡ []) × (rest u ≡ []) = subst (λ (o : Option A). YieldsFirst rest t o u) e y in
+      sym (so_far ∙ ap (λ l. xs ++ l) f.0 ∙ append-nil xs)

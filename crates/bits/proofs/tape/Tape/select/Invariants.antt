@@ -1,6 +1,0 @@
-use Rattle.std.proofs.Common.{◌≡◌, ◌+◌, ◌<◌}
-use Rattle.bits.specs.Bits.{rank_of}
-use Rattle.bits.proofs.tape.Tape.select.Given as goal
-
-abbrev pub invariant-loop-i : goal.invariant-loop-i
-invariant-loop-i g l = (l.left + rank_of (g.Self.Tape.bits l.self) l.i ≡ l.j) × (0 < l.left)
