@@ -4,7 +4,7 @@ ghost use Rattle.std.proofs.Common.{rules};
 use crate::key::Key;
 
 /// A price in whole cents: the higher is the better.
-#[derive(Clone, Copy)]
+#[derive(Clone, Copy, PartialEq, Eq, PartialOrd, Ord, Debug)]
 #[repr(C)]
 pub struct Price {
     pub cents: u32,
@@ -39,6 +39,6 @@ impl Key for Price {
     }
 
     fn at_least(&self, other: &Price) -> bool {
-        self.cents >= other.cents
+        self >= other
     }
 }

@@ -7,7 +7,7 @@ use crate::clip::Clip;
 use crate::key::Key;
 
 /// The plain row of a clip's fields: the key that clips are ranked by, and that lists and books hold.
-#[derive(Clone, Copy)]
+#[derive(Clone, Copy, PartialEq, Eq, Debug)]
 pub struct ClipRow {
     pub width: u32,
     pub wool_yield: u32,
@@ -22,7 +22,7 @@ impl Clip {
         let [width, wool_yield, strength] = fields else {
             return None;
         };
-        if *width < 100 || *width > 500 || *wool_yield > 1000 || *strength > 100 {
+        if !(100..=500).contains(width) || *wool_yield > 1000 || *strength > 100 {
             return None;
         }
         Some(Clip {
