@@ -1,49 +1,60 @@
 -- The steps of the checker's loops.
-use Rattle.std.proofs.Common.{◌≡◌, ℕ, zero, suc, ◌+◌, ◌-◌, ◌<◌, ◌≤◌, Bool, true, false, ltb, List, [], ◌∷◌, length, get_or, take, drop, set, Some, None, sym, refl, ap, ◌∙◌, arith, drop-drop}
-use Rattle.std.proofs.lemmas.Bool.{lt-ltb, le-ltb}
+use Rattle.std.proofs.Common.{◌≡◌, ℕ, zero, suc, ◌+◌, ◌-◌, ◌<◌, ◌≤◌, Bool, true, false, ltb, eqb, List, [], ◌∷◌, length, get_or, take, drop, set, Some, None, Option, sym, refl, ap, ◌∙◌, arith, drop-drop}
+use Rattle.std.specs.List.{slice_get}
+use Rattle.std.specs.Bool.{then_some}
+use Rattle.std.specs.Option.{option_or}
+use Rattle.reading.specs.Lots.{lot_number, is_lot}
+use Rattle.std.proofs.lemmas.Bool.{lt-ltb, le-ltb, ne_eqb}
 use Rattle.bits.specs.Bits.{ones, rank_of}
 use Rattle.bits.proofs.Bitlists.{rank_past, ones_le_length}
 use Rattle.std.proofs.lemmas.List.{drop_all, drop-set, length-set}
-use Rattle.bits.proofs.Bitlists.{set_at}
 use Rattle.leaders.specs.Verdict.{falses, trues, close_at, closes, spent, taken, has_too_many, lowest, walk, walked}
 use Rattle.leaders.proofs.Lengths.{word_length}
 use Rattle.leaders.proofs.Verdicts.{close_bound, walk_zero}
-use Rattle.reading.proofs.Readers.{drop_bit, drop_here, drop_take_none}
 
 -- `balance`
 
-close_next : (bs : List Bool) (p o : ℕ) (b c : Bool) → p < length bs → b ≡ set_at bs p → b ≡ c → close_at p o (drop p bs) ≡ close_at p o (c ∷ drop (p + 1) bs)
-close_next bs p o b c h i t =
-    ap (close_at p o) (drop_here bs p b h i ∙ ap (λ z. z ∷ drop (suc p) bs) t) ∙ ap (λ z. close_at p o (c ∷ drop z bs)) (let z : suc p ≡ p + 1 = omega arith in z)
+module _ (p o : ℕ) (bs rest : List Bool) (b : Bool) (first : bs ≡ b ∷ rest) where
+  pub close_open : b ≡ true → close_at p o bs ≡ close_at (p + 1) (o + 1) rest
+  unfolding close_at
+  close_open t =
+      ap (close_at p o) (first ∙ ap (λ c. c ∷ rest) t) ∙ ap (λ z. close_at z (suc o) rest) (let z : suc p ≡ p + 1 = omega arith in z)
+      ∙ ap (λ z. close_at (p + 1) z rest) (let z : suc o ≡ o + 1 = omega arith in z)
 
-pub close_open : (bs : List Bool) (p o : ℕ) (b : Bool) → p < length bs → b ≡ set_at bs p → b ≡ true → close_at p o (drop p bs) ≡ close_at (p + 1) (o + 1) (drop (p + 1) bs)
+  pub close_here : b ≡ false → o ≡ 0 → close_at p o bs ≡ Some (p + 1)
+  unfolding close_at
+  close_here t z = ap (λ n. close_at p n bs) z ∙ ap (close_at p 0) (first ∙ ap (λ c. c ∷ rest) t) ∙ ap Some (let z : suc p ≡ p + 1 = omega arith in z)
+
+  pub close_shut : b ≡ false → 0 < o → close_at p o bs ≡ close_at (p + 1) (o - 1) rest
+  unfolding close_at
+  close_shut t h = ap (close_at p o) (first ∙ ap (λ c. c ∷ rest) t) ∙ go o h
+    where
+      go : (o : ℕ) → 0 < o → close_at p o (false ∷ rest) ≡ close_at (p + 1) (o - 1) rest
+      go zero h = absurd (omega arith)
+      go (suc o) h =
+          ap (λ z. close_at z o rest) (let z : suc p ≡ p + 1 = omega arith in z)
+          ∙ ap (λ z. close_at (p + 1) z rest) (let z : o ≡ suc o - 1 = omega arith in z)
+
+pub close_never : (p o : ℕ) (bs : List Bool) → bs ≡ [] → close_at p o bs ≡ None
 unfolding close_at
-close_open bs p o b h i t = close_next bs p o b true h i t ∙ ap (λ z. close_at z (suc o) (drop (p + 1) bs)) (let z : suc p ≡ p + 1 = omega arith in z) ∙ ap (λ z. close_at (p + 1) z (drop (p + 1) bs)) (let z : suc o ≡ o + 1 = omega arith in z)
+close_never p o bs e = ap (close_at p o) e
 
-pub close_shut : (bs : List Bool) (p o : ℕ) (b : Bool) → p < length bs → b ≡ set_at bs p → b ≡ false → 0 < o → close_at p o (drop p bs) ≡ close_at (p + 1) (o - 1) (drop (p + 1) bs)
-unfolding close_at
-close_shut bs p zero b h i t k = absurd (omega arith)
-close_shut bs p (suc o) b h i t k = close_next bs p (suc o) b false h i t ∙ ap (λ z. close_at z o (drop (p + 1) bs)) (let z : suc p ≡ p + 1 = omega arith in z) ∙ ap (λ z. close_at (p + 1) z (drop (p + 1) bs)) (let z : o ≡ suc o - 1 = omega arith in z)
-
-pub close_here : (bs : List Bool) (p o : ℕ) (b : Bool) → p < length bs → b ≡ set_at bs p → b ≡ false → o ≡ 0 → close_at p o (drop p bs) ≡ Some (p + 1)
-unfolding close_at
-close_here bs p o b h i t k = ap (λ z. close_at p z (drop p bs)) k ∙ close_next bs p 0 b false h i t ∙ ap Some (let z : suc p ≡ p + 1 = omega arith in z)
-
-pub close_never : (bs : List Bool) (p o : ℕ) → length bs ≤ p → close_at p o (drop p bs) ≡ None
-unfolding close_at
-close_never bs p o h = ap (close_at p o) (drop_all p bs h)
-
-pub closes_not : (bs : List Bool) (b : Bool) → b ≡ set_at bs 0 → b ≡ false → closes bs ≡ None
+pub closes_none : (bs : List Bool) → slice_get bs 0 ≡ None → closes bs ≡ None
 unfolding closes
-closes_not [] b i t = refl
-closes_not (true ∷ bs) b i t = absurd (let z : ◌≡◌ {A = ℕ} 0 1 = cc in omega arith)
-closes_not (false ∷ bs) b i t = refl
+closes_none [] e = refl
+closes_none (b ∷ bs) e = absurd (let z : ◌≡◌ {A = ℕ} 0 1 = cc in omega arith)
 
-pub closes_starts : (bs : List Bool) (b : Bool) → b ≡ set_at bs 0 → b ≡ true → close_at 1 0 (drop 1 bs) ≡ closes bs
+pub closes_not : (bs : List Bool) (b : Bool) → slice_get bs 0 ≡ Some b → b ≡ false → closes bs ≡ None
 unfolding closes
-closes_starts [] b i t = absurd (let z : ◌≡◌ {A = ℕ} 0 1 = cc in omega arith)
-closes_starts (true ∷ bs) b i t = refl
-closes_starts (false ∷ bs) b i t = absurd (let z : ◌≡◌ {A = ℕ} 0 1 = cc in omega arith)
+closes_not [] b e t = refl
+closes_not (true ∷ bs) b e t = absurd (let z : ◌≡◌ {A = ℕ} 0 1 = cc in omega arith)
+closes_not (false ∷ bs) b e t = refl
+
+pub closes_starts : (bs : List Bool) (b : Bool) → slice_get bs 0 ≡ Some b → b ≡ true → close_at 1 0 (drop 1 bs) ≡ closes bs
+unfolding closes
+closes_starts [] b e t = absurd (let z : ◌≡◌ {A = ℕ} 0 1 = cc in omega arith)
+closes_starts (true ∷ bs) b e t = refl
+closes_starts (false ∷ bs) b e t = absurd (let z : ◌≡◌ {A = ℕ} 0 1 = cc in omega arith)
 
 pub closes_bound : (bs : List Bool) (m : ℕ) → closes bs ≡ Some m → (2 ≤ m) × (m ≤ length bs)
 unfolding closes
@@ -128,15 +139,9 @@ pub walk_first : (all : List Bool) (d : ℕ) (lot at bad : ℕ) (bs : List Bool)
 unfolding walk
 walk_first all d lot at bad bs = refl
 
-pub walk_end : (all : List Bool) (d : ℕ) (st : List ℕ) (lot at bad p m : ℕ) (bs : List Bool) → m ≤ p → walked at bad ≡ walk all d st lot at bad (drop p (take m bs))
+pub walk_end : (all : List Bool) (d : ℕ) (st : List ℕ) (lot at bad : ℕ) (bs : List Bool) → bs ≡ [] → walked at bad ≡ walk all d st lot at bad bs
 unfolding walk
-walk_end all d st lot at bad p m bs h = ap (walk all d st lot at bad) (sym (drop_take_none bs p m h))
-
-pub bit_next : (bs : List Bool) (p e : ℕ) (b c : Bool) → p < e → e ≤ length bs → b ≡ set_at bs p → b ≡ c → drop p (take e bs) ≡ c ∷ drop (p + 1) (take e bs)
-bit_next bs p e b c h k i t = drop_bit bs p e b h k i ∙ ap (λ z. z ∷ drop (suc p) (take e bs)) t ∙ ap (λ z. c ∷ drop z (take e bs)) (let z : suc p ≡ p + 1 = omega arith in z)
-
-pub drop_some : (st : List ℕ) (i : ℕ) → i < length st → 0 < length (drop i st)
-drop_some st i h = omega (arith, drop_long st i (omega arith))
+walk_end all d st lot at bad bs e = sym (ap (walk all d st lot at bad) e)
 
 -- `too_many`
 
@@ -160,27 +165,56 @@ pub too_many_right : (p q : ℕ) (xs : List Bool) → falses xs ≤ p → has_to
 unfolding has_too_many
 too_many_right p q xs h = rw (le-ltb p (falses xs) h)
 
-module _ (all : List Bool) (p m : ℕ) (b : Bool) (less : p < m) (short : m ≤ length all) (i : b ≡ set_at all p) (d d' : ℕ) (st st' : List ℕ) (lot lot' at at' bad bad' : ℕ) where
-  pub step_one : b ≡ true → d' ≡ d + 1 → st' ≡ st → lot' ≡ lot → at' ≡ at → bad' ≡ bad →
-      walk all d' st' lot' at' bad' (drop (p + 1) (take m all)) ≡ walk all d st lot at bad (drop p (take m all))
-  step_one t e f g h k =
-      let n : walk all d' st' lot' at' bad' (drop (p + 1) (take m all)) ≡ walk all (d + 1) st lot at bad (drop (p + 1) (take m all)) = cc in
-      n ∙ sym (ap (walk all d st lot at bad) (bit_next all p m b true less short i t) ∙ walk_one all d st lot at bad (drop (p + 1) (take m all)))
-
-  pub step_first : b ≡ false → st ≡ [] → d' ≡ 0 → st' ≡ d ∷ [] → lot' ≡ lot → at' ≡ at → bad' ≡ bad →
-      walk all d' st' lot' at' bad' (drop (p + 1) (take m all)) ≡ walk all d st lot at bad (drop p (take m all))
-  step_first t z e f g h k =
-      let n : walk all d' st' lot' at' bad' (drop (p + 1) (take m all)) ≡ walk all 0 (d ∷ []) lot at bad (drop (p + 1) (take m all)) = cc in
-      n ∙ sym (ap (λ s. walk all d s lot at bad (drop p (take m all))) z ∙ ap (walk all d [] lot at bad) (bit_next all p m b false less short i t) ∙ walk_first all d lot at bad (drop (p + 1) (take m all)))
-
-  pub step_zero : (before size : ℕ) (wrong : Bool) → b ≡ false → 0 < length st → d' ≡ 0 → st' ≡ d ∷ taken st → lot' ≡ lot + 1 → before ≡ spent st → size ≡ before + d - 1 → at' ≡ at + size →
-      wrong ≡ has_too_many before d (take size (drop at all)) → bad' ≡ lowest (lot + 1) bad wrong →
-      walk all d' st' lot' at' bad' (drop (p + 1) (take m all)) ≡ walk all d st lot at bad (drop p (take m all))
-  step_zero before size wrong t z e f g h k l n o =
-      let x : walk all d' st' lot' at' bad' (drop (p + 1) (take m all)) ≡
-      walk all 0 (d ∷ taken st) (lot + 1) (at + (spent st + d - 1)) (lowest (lot + 1) bad (has_too_many (spent st) d (take (spent st + d - 1) (drop at all)))) (drop (p + 1) (take m all)) = cc in
-      x ∙ sym (ap (walk all d st lot at bad) (bit_next all p m b false less short i t) ∙ walk_zero all d st lot at bad (drop (p + 1) (take m all)) z)
-
 pub taken_none : (st : List ℕ) → st ≡ [] → taken st ≡ []
 unfolding taken
 taken_none st e = ap taken e
+
+-- a path is empty, or has a node
+pub path_some : (st : List ℕ) (empty : Bool) → empty ≡ eqb (length st) 0 → empty ≡ false → 0 < length st
+path_some [] true e f = absurd (let z : ◌≡◌ {A = ℕ} 0 1 = cc in omega arith)
+path_some [] false e f = absurd (let z : ◌≡◌ {A = ℕ} 0 1 = cc in omega arith)
+path_some (x ∷ st) empty e f = omega arith
+
+pub path_none : (st : List ℕ) (empty : Bool) → empty ≡ eqb (length st) 0 → empty ≡ true → st ≡ []
+path_none [] empty e f = refl
+path_none (x ∷ st) empty e f = absurd (let g : false ≡ true = sym (ne_eqb (length (x ∷ st)) 0 (omega arith)) ∙ sym e ∙ f in let z : ◌≡◌ {A = ℕ} 0 1 = cc in omega arith)
+
+pub taken_le : (st : List ℕ) → length (taken st) ≤ length st
+unfolding taken
+taken_le [] = omega arith
+taken_le (zero ∷ st) = omega (arith, taken_le st)
+taken_le (suc c ∷ st) = omega arith
+
+module _ (all : List Bool) (bs rest : List Bool) (b : Bool) (first : bs ≡ b ∷ rest) (d : ℕ) (st : List ℕ) (lot at bad : ℕ) where
+  next_is : (c : Bool) → b ≡ c → walk all d st lot at bad bs ≡ walk all d st lot at bad (c ∷ rest)
+  next_is c t = ap (walk all d st lot at bad) (first ∙ ap (λ x. x ∷ rest) t)
+
+  pub step_one : b ≡ true → walk all (d + 1) st lot at bad rest ≡ walk all d st lot at bad bs
+  step_one t = sym (next_is true t ∙ walk_one all d st lot at bad rest)
+
+  pub step_first : b ≡ false → st ≡ [] → walk all 0 (d ∷ taken st) lot at bad rest ≡ walk all d st lot at bad bs
+  step_first t z =
+      ap (λ s. walk all 0 (d ∷ s) lot at bad rest) (taken_none st z)
+      ∙ sym (next_is false t ∙ ap (λ s. walk all d s lot at bad (false ∷ rest)) z ∙ walk_first all d lot at bad rest)
+
+  pub step_zero : (before size bad' : ℕ) (wrong : Bool) → b ≡ false → 0 < length st → before ≡ spent st → size ≡ before + d - 1 →
+      wrong ≡ has_too_many before d (take size (drop at all)) → bad' ≡ lowest (lot + 1) bad wrong →
+      walk all 0 (d ∷ taken st) (lot + 1) (at + size) bad' rest ≡ walk all d st lot at bad bs
+  step_zero before size bad' wrong t z k l n o =
+      let x : walk all 0 (d ∷ taken st) (lot + 1) (at + size) bad' rest ≡
+      walk all 0 (d ∷ taken st) (lot + 1) (at + (spent st + d - 1)) (lowest (lot + 1) bad (has_too_many (spent st) d (take (spent st + d - 1) (drop at all)))) rest = cc in
+      x ∙ sym (next_is false t ∙ walk_zero all d st lot at bad rest z)
+
+-- the lowest lot with a faulty word, as a number
+pub lowest_lot : (lot : ℕ) (bad : Option ℕ) (wrong : Bool) → is_lot bad ≡ true → lot_number (option_or bad (then_some wrong lot)) ≡ lowest lot (lot_number bad) wrong
+unfolding lowest
+lowest_lot lot None true h = refl
+lowest_lot lot None false h = refl
+lowest_lot lot (Some zero) wrong h = absurd (let z : ◌≡◌ {A = ℕ} 0 1 = cc in omega arith)
+lowest_lot lot (Some (suc n)) true h = rw (ne_eqb (suc n) 0 (omega arith))
+lowest_lot lot (Some (suc n)) false h = rw (ne_eqb (suc n) 0 (omega arith))
+
+pub lot_there : (bad : Option ℕ) (lot : ℕ) → is_lot bad ≡ true → bad ≡ Some lot → lot_number bad ≡ 0 → ⊥
+lot_there None lot h e z = (let y : ◌≡◌ {A = ℕ} 0 1 = cc in omega arith)
+lot_there (Some zero) lot h e z = (let y : ◌≡◌ {A = ℕ} 0 1 = cc in omega arith)
+lot_there (Some (suc n)) lot h e z = omega arith

@@ -1,5 +1,5 @@
 -- Marks: where the numbers of lots begin, found by going forward over zeros.
-use Rattle.std.proofs.Common.{◌≡◌, ℕ, zero, suc, ◌+◌, ◌-◌, ◌<◌, Bool, true, false, cond, List, [], ◌∷◌, drop, sym, ap, ◌∙◌, arith}
+use Rattle.std.proofs.Common.{◌≡◌, ℕ, zero, suc, ◌+◌, ◌-◌, ◌<◌, Bool, true, false, cond, List, [], ◌∷◌, drop, Some, sym, ap, ◌∙◌, arith}
 use Rattle.std.proofs.lemmas.Bool.{ne_eqb}
 use Rattle.reading.specs.Place.{after}
 use Rattle.reading.specs.Reading.{reach, is_left_first, runner_up_of}
@@ -13,6 +13,6 @@ after_add (suc i) m (true ∷ bs) = let e : suc i + m ≡ suc (i + m) = omega ar
 after_add (suc i) m (false ∷ bs) = let e : suc i + m ≡ suc (i + m) = omega arith in rw e (ap suc (after_add i m bs) ∙ omega arith)
 
 -- the second of a range whose best has lots on both sides
-pub chosen : (bs : List Bool) (lots i j k a above next : ℕ) (t : Bool) → i < k → k < j → a ≡ (reach bs i (k - 1)).best → above ≡ (reach bs (k + 1) j).above → next ≡ (reach bs (k + 1) j).best → t ≡ is_left_first bs lots k a above → cond t a next ≡ runner_up_of bs lots i j k
+pub chosen : (bs : List Bool) (lots i j k a above next : ℕ) (t : Bool) → i < k → k < j → a ≡ (reach bs i (k - 1)).best → above ≡ (reach bs (k + 1) j).above → next ≡ (reach bs (k + 1) j).best → t ≡ is_left_first bs lots k a above → Some (cond t a next) ≡ runner_up_of bs lots i j k
 unfolding runner_up_of
 chosen bs lots i j k a above next t h g e f n l = rw (ne_eqb i k (omega arith), ne_eqb k j (omega arith), ← e, ← f, ← n, ← l)

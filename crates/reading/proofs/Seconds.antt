@@ -1,5 +1,5 @@
 -- The second best lot of a range.
-use Rattle.std.proofs.Common.{◌≡◌, ℕ, zero, suc, ◌+◌, ◌-◌, ◌*◌, ◌<◌, ◌≤◌, Bool, true, false, cond, leb, List, [], ◌∷◌, ◌++◌, length, get_or, take, drop, sym, refl, ap, ◌∙◌, subst, inl, inr, append_assoc, arith, length-append, take_at, drop_at}
+use Rattle.std.proofs.Common.{◌≡◌, ℕ, zero, suc, ◌+◌, ◌-◌, ◌*◌, ◌<◌, ◌≤◌, Bool, true, false, cond, leb, List, [], ◌∷◌, ◌++◌, length, get_or, take, drop, Some, None, IsSomeAnd, sym, refl, ap, ◌∙◌, subst, inl, inr, append_assoc, arith, length-append, take_at, drop_at}
 use lib.Seq.{take-append-le, drop-append-add}
 use Rattle.std.proofs.lemmas.Bool.{cases_lt, eq-eqb, ne_eqb, le-ltb, leb-true, leb-false}
 use Rattle.leaders.specs.Tree.{Tree, leaf, node, size, ls, rs, words, encode, Wellformed}
@@ -273,7 +273,7 @@ module _ (b : ℕ → ℕ → Bool) (s : Strict b) (t : Tree) (bs : List Bool) (
       zoom_best b t bs e i (k - 1) (omega arith) (omega (arith, below_size)) y
       ∙ best_one b s i (k - 1) (root y.q y.l) a (root_best b t i (k - 1) y) (subst (λ n. Best b i n a) (let x : z.q + size z.l ≡ k - 1 = omega arith in x) (left_found g).best)
 
-  both_sides : Follows b 0 t → i < k → k < j → Second b i j k (runner_up_of bs (size t) i j k)
+  both_sides : Follows b 0 t → i < k → k < j → IsSomeAnd (runner_up_of bs (size t) i j k) (Second b i j k)
   unfolding runner_up_of
   both_sides f g h =
       let r = (right_is h).1 in
@@ -307,30 +307,30 @@ left_only b i j k s h e p g = record {
   over = λ m u v d c. g.over m u (omega arith) c;
 }
 
-runner_right : (bs : List Bool) (n i j k : ℕ) → i ≡ k → k < j → runner_up_of bs n i j k ≡ (reach bs (k + 1) j).best
+runner_right : (bs : List Bool) (n i j k : ℕ) → i ≡ k → k < j → runner_up_of bs n i j k ≡ Some (reach bs (k + 1) j).best
 unfolding runner_up_of
 runner_right bs n i j k e h = rw (eq-eqb i k e, ne_eqb k j (omega arith))
 
-runner_left : (bs : List Bool) (n i j k : ℕ) → i < k → k ≡ j → runner_up_of bs n i j k ≡ (reach bs i (k - 1)).best
+runner_left : (bs : List Bool) (n i j k : ℕ) → i < k → k ≡ j → runner_up_of bs n i j k ≡ Some (reach bs i (k - 1)).best
 unfolding runner_up_of
 runner_left bs n i j k e h = rw (ne_eqb i k (omega arith), eq-eqb k j h)
 
-pub runner_none : (bs : List Bool) (n i j k : ℕ) → i ≡ k → k ≡ j → runner_up_of bs n i j k ≡ 0
+pub runner_none : (bs : List Bool) (n i j k : ℕ) → i ≡ k → k ≡ j → runner_up_of bs n i j k ≡ None
 unfolding runner_up_of
 runner_none bs n i j k e h = rw (eq-eqb i k e, eq-eqb k j h)
 
-pub second_read : (b : ℕ → ℕ → Bool) → Strict b → (bs : List Bool) (n : ℕ) → sheet b n ≡ bs → (i j : ℕ) → 1 ≤ i → i < j → j ≤ n → Second b i j (reach bs i j).best (runner_up_of bs n i j (reach bs i j).best)
+pub second_read : (b : ℕ → ℕ → Bool) → Strict b → (bs : List Bool) (n : ℕ) → sheet b n ≡ bs → (i j : ℕ) → 1 ≤ i → i < j → j ≤ n → IsSomeAnd (runner_up_of bs n i j (reach bs i j).best) (Second b i j (reach bs i j).best)
 second_read b s bs n e i j g h m =
     let c = coded b s bs n e in
     let z = zoom b 0 c.t c.follows i j g (omega arith) (omega (arith, c.sized)) in
     let k = root z.q z.l in
     let best = root_best b c.t i j z in
-    let at-k : Second b i j k (runner_up_of bs n i j k) =
+    let at-k : IsSomeAnd (runner_up_of bs n i j k) (Second b i j k) =
     elim (cases_lt i k) [
       | inl p ↦ elim (cases_lt k j) [
-        | inl q ↦ subst (λ x. Second b i j k (runner_up_of bs x i j k)) c.sized (both_sides b s c.t bs c.is i j (omega (arith, c.sized)) z c.follows p q)
-        | inr q ↦ let y : k ≡ j = omega (arith, z.high) in subst (Second b i j k) (sym (runner_left bs n i j k p y)) (left_only b i j k _ best y p (best_read b s bs n e i (k - 1) g (omega arith) (omega arith)))
+        | inl q ↦ subst (λ x. IsSomeAnd (runner_up_of bs x i j k) (Second b i j k)) c.sized (both_sides b s c.t bs c.is i j (omega (arith, c.sized)) z c.follows p q)
+        | inr q ↦ let y : k ≡ j = omega (arith, z.high) in subst (λ o. IsSomeAnd o (Second b i j k)) (sym (runner_left bs n i j k p y)) (left_only b i j k _ best y p (best_read b s bs n e i (k - 1) g (omega arith) (omega arith)))
       ]
-      | inr p ↦ let y : i ≡ k = omega (arith, z.low) in subst (Second b i j k) (sym (runner_right bs n i j k y (omega arith))) (right_only b i j k _ best y (best_read b s bs n e (k + 1) j (omega arith) (omega arith) m))
+      | inr p ↦ let y : i ≡ k = omega (arith, z.low) in subst (λ o. IsSomeAnd o (Second b i j k)) (sym (runner_right bs n i j k y (omega arith))) (right_only b i j k _ best y (best_read b s bs n e (k + 1) j (omega arith) (omega arith) m))
     ] in
-    subst (λ x. Second b i j x (runner_up_of bs n i j x)) (sym (zoom_best b c.t bs c.is i j (omega arith) (omega (arith, c.sized)) z)) at-k
+    subst (λ x. IsSomeAnd (runner_up_of bs n i j x) (Second b i j x)) (sym (zoom_best b c.t bs c.is i j (omega arith) (omega (arith, c.sized)) z)) at-k

@@ -3,3 +3,4 @@ pub mod Place
 pub mod Reading
 pub mod Leads
 pub mod Faults
+pub mod Lots

@@ -1,5 +1,5 @@
 -- What the reader finds in the bits of a sheet.
-use Rattle.std.specs.Prelude.{◌≡◌, ℕ, ◌+◌, ◌-◌, ◌*◌, ◌^◌, ◌<◌, ◌≤◌, Bool, true, false, cond, List, take, drop, ◌==◌}
+use Rattle.std.specs.Prelude.{◌≡◌, ℕ, ◌+◌, ◌-◌, ◌*◌, ◌^◌, ◌<◌, ◌≤◌, Bool, true, false, cond, List, take, drop, Some, None, Option, ◌==◌}
 use Rattle.reading.specs.declared.climb.Climb.{Climb}
 use Rattle.reading.specs.declared.climb.Mark.{Mark}
 use Rattle.reading.specs.declared.climb.Sweep.{Sweep}
@@ -22,13 +22,13 @@ word_at bs n k = 2 * n + 2 + (after k bs - after 1 bs - (k - 1)) + lones true fa
 unfoldable pub is_left_first : List Bool → ℕ → ℕ → ℕ → ℕ → Bool
 is_left_first bs n k a above = sooner (drop (word_at bs n k) bs) ((reach bs 1 a).steps - (reach bs 1 k).steps) (after (k + 1) bs - after k bs - (2 + above))
 
--- the second best of i..j, whose best is k; 0 for none
-unfoldable pub runner_up_of : List Bool → ℕ → ℕ → ℕ → ℕ → ℕ
+-- the second best of i..j, whose best is k, if there is another lot
+unfoldable pub runner_up_of : List Bool → ℕ → ℕ → ℕ → ℕ → Option ℕ
 runner_up_of bs n i j k =
     cond (i == k)
-    (cond (k == j) 0 (reach bs (k + 1) j).best)
-    (cond (k == j) (reach bs i (k - 1)).best
-    (cond (is_left_first bs n k (reach bs i (k - 1)).best (reach bs (k + 1) j).above) (reach bs i (k - 1)).best (reach bs (k + 1) j).best))
+    (cond (k == j) None (Some (reach bs (k + 1) j).best))
+    (cond (k == j) (Some (reach bs i (k - 1)).best)
+    (Some (cond (is_left_first bs n k (reach bs i (k - 1)).best (reach bs (k + 1) j).above) (reach bs i (k - 1)).best (reach bs (k + 1) j).best)))
 
 -- a reader on the way back from lot m has come to lot i, with c steps more
 abbrev pub On : List Bool → ℕ → ℕ → ℕ → Climb → Type 0
@@ -47,7 +47,7 @@ pub record Small (s : Climb) : Type 0 where
 -- the new values of a sweep but for its climb: other ones where the best changes
 abbrev pub Widened : Sweep → ℕ → ℕ → Sweep → Type 0
 Widened s from children r =
-    (s.all.above < children → (r.here ≡ from) × (r.right ≡ s.all.best) × (r.later ≡ children - s.all.above - 1))
+    (s.all.above < children → (r.here ≡ from) × (r.right ≡ Some s.all.best) × (r.later ≡ children - s.all.above - 1))
     × (children ≤ s.all.above → (r.here ≡ s.here) × (r.right ≡ s.right) × (r.later ≡ s.later))
 
 -- what a sweep from lot j to lot i has seen
@@ -58,8 +58,8 @@ pub record Swept (bs : List Bool) (i j : ℕ) (s : Sweep) : Type 0 where
   pub from : i ≤ s.all.best
   pub upto : s.all.best ≤ j
   pub here : Begins bs s.all.best s.here
-  pub none : s.all.best ≡ j → s.right ≡ 0
-  pub right : s.all.best < j → s.right ≡ (reach bs (s.all.best + 1) j).best
+  pub none : s.all.best ≡ j → s.right ≡ None
+  pub right : s.all.best < j → s.right ≡ Some (reach bs (s.all.best + 1) j).best
   pub later : s.all.best < j → s.later ≡ after (s.all.best + 1) bs - after s.all.best bs - (2 + (reach bs (s.all.best + 1) j).above)
 
 -- a way one number further

@@ -1,15 +1,18 @@
 //! Whether the bits of a tape are a sheet.
 
-ghost use Rattle.std.specs.Prelude.{◌≡◌, ◌+◌, ◌<◌, ◌≤◌, [], ◌∷◌, length, take, drop};
+ghost use Rattle.std.specs.Prelude.{◌≡◌, true, ◌≤◌, [], length, take, drop};
 ghost use Rattle.leaders.specs.Refusal.{answered};
-ghost use Rattle.leaders.specs.Verdict.{closes, spent, taken, has_too_many, lowest, walk, walked, verdict};
+ghost use Rattle.leaders.specs.Verdict.{closes, has_too_many, lowest, walk, walked, verdict};
 ghost use Rattle.reading.specs.Faults.{told};
+ghost use Rattle.reading.specs.Lots.{lot_number, is_lot};
 
+use crate::path::Path;
+use bits::iter::Bits;
 use bits::tape::Tape;
 use bits::views::Window;
 
 /// Why a tape is not taken.
-#[derive(Clone, Copy)]
+#[derive(Clone, Copy, PartialEq, Eq, Debug)]
 pub enum SheetFault {
     /// It is empty, begins with `)`, or never has as many `)` as `(`.
     Unbalanced,
@@ -35,71 +38,28 @@ impl SheetFault {
     }
 }
 
-/// Where the last word ends, and the first lot whose word is wrong, 0 for none.
-#[derive(Clone, Copy)]
-pub struct Walk {
-    pub at: usize,
-    pub bad: u32,
-}
+/// The most bits that the brackets of a sheet have: two for each of 4,000 lots, and two around them.
+const MOST_BRACKETS: usize = 8_002;
 
 /// Where the brackets first balance.
 fn balance<T: Tape>(tape: &T) -> Option<usize>
     ensures { result ≡ closes (T.Tape.bits tape.now) }
 {
-    if !tape.get(0).unwrap_or(false) {
+    if !tape.get(0)? {
         return None;
     }
     let mut open: usize = 0;
-    for p in 1..tape.len() {
-        if tape.get(p).unwrap_or(false) {
+    for (read, bit) in Bits::between(tape, 1, tape.len()).enumerate() {
+        if bit {
             open += 1;
         } else {
             if open == 0 {
-                return Some(p + 1);
+                return Some(read + 2);
             }
             open -= 1;
         }
     }
     None
-}
-
-/// The first place from `top` on that is not 0.
-fn skip_empty(stack: &[u16], top: usize) -> usize
-    requires { top ≤ length stack.now }
-    ensures is { result ≡ top + spent (drop top stack.now) }
-    ensures short { result ≤ length stack.now }
-{
-    for i in top..stack.len() {
-        if stack[i] != 0 {
-            return i;
-        }
-    }
-    stack.len()
-}
-
-/// How many lots have left the stack, and where its top is now.
-#[derive(Clone, Copy)]
-pub struct Settled {
-    pub before: usize,
-    pub top: usize,
-}
-
-/// The next lot takes a child place, and comes onto the stack with `d` places of its own.
-fn settle(stack: &mut [u16], top: usize, d: u16) -> Settled
-    requires { (1 ≤ top) × (top ≤ length stack.old) }
-    ensures before { result.before ≡ spent (drop top stack.old) }
-    ensures stack { drop result.top stack.new ≡ d ∷ taken (drop top stack.old) }
-    ensures top { (top ≤ result.top + 1) × ((result.top < length stack.old) × (result.before ≤ length stack.old)) }
-{
-    let next = skip_empty(stack, top);
-    if next < stack.len() {
-        stack[next] -= 1;
-    }
-    stack[next - 1] = d;
-    Settled {
-        before: next - top,
-        top: next - 1,
-    }
 }
 
 /// Are there more than `p` zeros or more than `q` ones among the `size` bits from `from` on?
@@ -116,41 +76,46 @@ fn too_many<T: Tape>(tape: &T, from: usize, size: usize, p: usize, q: usize) -> 
     n - ones > p || ones > q
 }
 
+/// Where the last word ends, and the first lot whose word is wrong, if one is.
+#[derive(Drop)]
+pub struct Walk {
+    pub at: usize,
+    pub bad: Option<u32>,
+    ghost lot: { is_lot bad ≡ true },
+}
+
 /// The first lot whose word is wrong.
-fn first_bad(lot: u32, bad: u32, wrong: bool) -> u32
-    ensures { result ≡ lowest lot bad wrong }
+fn first_bad(lot: u32, bad: Option<u32>, wrong: bool) -> Option<u32>
+    requires lot { 1 ≤ lot }
+    requires bad { is_lot bad ≡ true }
+    ensures is { lot_number result ≡ lowest lot (lot_number bad) wrong }
+    ensures lot { is_lot result ≡ true }
 {
-    if bad == 0 && wrong { lot } else { bad }
+    bad.or(wrong.then_some(lot))
 }
 
 /// Over the brackets, `m` bits.
 fn walk_over<T: Tape>(tape: &T, m: usize) -> Walk
     requires { (m ≤ 8002) × (m ≤ length (T.Tape.bits tape.now)) }
-    ensures { walked result.at result.bad ≡ walk (T.Tape.bits tape.now) 0 [] 0 m 0 (drop 1 (take m (T.Tape.bits tape.now))) }
+    ensures { walked result.at (lot_number result.bad) ≡ walk (T.Tape.bits tape.now) 0 [] 0 m 0 (drop 1 (take m (T.Tape.bits tape.now))) }
 {
-    let mut stack = [0u16; 8002];
-    let mut top = 8002;
+    let mut path = Path::new();
     let mut d: u16 = 0;
     let mut lot = 0;
     let mut at = m;
-    let mut bad = 0;
-    for p in 1..m {
-        if tape.get(p).unwrap_or(false) {
+    let mut bad = None;
+    for bit in Bits::between(tape, 1, m) {
+        if bit {
             d += 1;
         } else {
-            let whole = top == 8002;
-            let settled = settle(&mut stack, top, d);
-            if !whole {
-                let size = (settled.before + d as usize).saturating_sub(1);
+            let root = path.is_empty();
+            let before = path.settle(d);
+            if !root {
+                let size = (before + d as usize).saturating_sub(1);
                 lot += 1;
-                bad = first_bad(
-                    lot,
-                    bad,
-                    too_many(tape, at, size, settled.before, d as usize),
-                );
+                bad = first_bad(lot, bad, too_many(tape, at, size, before, d as usize));
                 at += size;
             }
-            top = settled.top;
             d = 0;
         }
     }
@@ -164,15 +129,15 @@ pub fn check<T: Tape>(tape: &T) -> Result<u32, SheetFault>
     let Some(m) = balance(tape) else {
         return Err(SheetFault::Unbalanced);
     };
-    if m > 8002 {
+    if m > MOST_BRACKETS {
         return Err(SheetFault::TooManyLots);
     }
     let end = walk_over(tape, m);
     if end.at != tape.len() {
         return Err(SheetFault::WrongLength);
     }
-    if end.bad != 0 {
-        return Err(SheetFault::BadWord(end.bad));
+    match end.bad {
+        Some(lot) => Err(SheetFault::BadWord(lot)),
+        None => Ok((m / 2).saturating_sub(1) as u32),
     }
-    Ok((m / 2).saturating_sub(1) as u32)
 }

@@ -7,6 +7,7 @@ ghost use Rattle.reading.specs.Climbing.{at, climb};
 ghost use Rattle.reading.specs.Place.{Number, Begins};
 ghost use Rattle.reading.specs.Reading.{Small, Swept, Widened};
 
+use bits::iter::Bits;
 use bits::tape::Tape;
 
 /// How far a reader has gone back.
@@ -61,12 +62,8 @@ pub(crate) fn number_back<T: Tape>(tape: &T, end: usize) -> usize
     ensures short { result ≤ end }
     ensures is { Number (T.Tape.bits tape.now) end result }
 {
-    for p in (0..end).rev() {
-        if !tape.get(p).unwrap_or(true) {
-            return p + 1;
-        }
-    }
-    0
+    let ones = Bits::between(tape, 0, end).rev().take_while(|bit| *bit);
+    end - ones.count()
 }
 
 /// A lot, and the bit where its number of children begins.
@@ -76,12 +73,12 @@ pub struct Mark {
     pub at: usize,
 }
 
-/// What a reader has seen on its way back: where the number of the best lot begins, the best lot behind it, 0 for none, and the children of the best behind that one.
+/// What a reader has seen on its way back: where the number of the best lot begins, the best lot behind it, if there is one, and the children of the best behind that one.
 #[derive(Clone, Copy)]
 pub struct Sweep {
     pub all: Climb,
     pub here: usize,
-    pub right: u32,
+    pub right: Option<u32>,
     pub later: usize,
 }
 
@@ -99,7 +96,7 @@ pub(crate) fn widen(s: Sweep, before: Mark, children: usize) -> Sweep
         Sweep {
             all,
             here: before.at,
-            right: s.all.best,
+            right: Some(s.all.best),
             later: children - s.all.above - 1,
         }
     } else {
@@ -124,7 +121,7 @@ pub(crate) fn sweep_back<T: Tape>(tape: &T, low: u32, high: Mark) -> Sweep
     let mut s = Sweep {
         all: start_at(high.lot),
         here: high.at,
-        right: 0,
+        right: None,
         later: 0,
     };
     for lot in (low..high.lot).rev() {

@@ -4,4 +4,5 @@
 pub mod check;
 mod climb;
 pub mod pair;
+mod path;
 mod place;

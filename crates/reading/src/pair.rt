@@ -3,7 +3,7 @@
 ghost use Rattle.std.specs.Prelude.{◌≡◌, ℕ, ◌+◌, ◌-◌, ◌≤◌};
 ghost use Rattle.reading.specs.Place.{after};
 ghost use Rattle.reading.specs.Reading.{is_left_first, runner_up_of, Small, Swept, Few, Front};
-ghost use Rattle.reading.specs.Leads.{lot_of_number, Shows};
+ghost use Rattle.reading.specs.Leads.{Shows};
 
 use crate::climb::{Mark, Sweep, start_at, sweep_back};
 use crate::place::{Way, Ways, go_back, go_home, zero_first};
@@ -25,8 +25,8 @@ fn left_first<T: Tape>(tape: &T, lots: u32, s: Sweep, within: usize, w: Ways) ->
     zero_first(tape, symbols.saturating_sub(way.left.steps + 1), x, s.later)
 }
 
-/// The second of the lots from `low` to `high`, over which a sweep has gone, or 0 where there is no other.
-fn runner_up<T: Tape>(tape: &T, lots: u32, low: u32, high: u32, s: Sweep) -> u32
+/// The second of the lots from `low` to `high`, over which a sweep has gone, if there is another.
+fn runner_up<T: Tape>(tape: &T, lots: u32, low: u32, high: u32, s: Sweep) -> Option<u32>
     requires swept { Swept (T.Tape.bits tape.now) low high s }
     requires low { 1 ≤ low }
     requires short { s.here ≤ 32768 }
@@ -53,7 +53,7 @@ fn runner_up<T: Tape>(tape: &T, lots: u32, low: u32, high: u32, s: Sweep) -> u32
     let near = go_back(tape, low, next);
     let a = near.left.best;
     if k >= high {
-        return a;
+        return Some(a);
     }
     let ways = Ways {
         way: near,
@@ -61,47 +61,36 @@ fn runner_up<T: Tape>(tape: &T, lots: u32, low: u32, high: u32, s: Sweep) -> u32
     };
     let far = go_home(tape, ways);
     if left_first(tape, lots, s, near.left.steps, far) {
-        a
+        Some(a)
     } else {
         s.right
     }
 }
 
-/// A lot by its number, or none where that is 0.
-fn lot_of(number: u32) -> Option<u32>
-    ensures { result ≡ lot_of_number number }
-{
-    if number == 0 { None } else { Some(number) }
-}
-
 /// The best lot of a range, and the second if there is one.
-#[derive(Clone, Copy)]
+#[derive(Clone, Copy, PartialEq, Eq, Debug)]
 pub struct Pair {
     pub best: u32,
     pub second: Option<u32>,
 }
 
 /// The best and the second of the lots `i` to `j`, of `lots` lots: right where the tape's bits are a sheet of so many, and the range is one of them.
-pub fn pair_of<T: Tape>(tape: &T, lots: u32, i: u32, j: u32) -> Pair
+pub fn pair_of<T: Tape>(tape: &T, lots: u32, i: u32, j: u32) -> Option<Pair>
     ensures { Shows (T.Tape.bits tape.now) lots i j result }
 {
-    let blank = Pair {
-        best: 0,
-        second: None,
-    };
     if i == 0 || j < i {
-        return blank;
+        return None;
     }
     let n = tape.len();
-    let Some(p) = tape.select_zero(j as usize) else {
-        return blank;
-    };
+    let p = tape.select_zero(j as usize)?;
     let high = Mark {
         lot: j,
         at: n.min(p.saturating_add(1)),
     };
     let s = sweep_back(tape, i, high);
-    let best = s.all.best;
-    let second = lot_of(runner_up(tape, lots, i, j, s));
-    Pair { best, second }
+    let second = runner_up(tape, lots, i, j, s);
+    Some(Pair {
+        best: s.all.best,
+        second,
+    })
 }

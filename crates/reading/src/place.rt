@@ -6,6 +6,7 @@ ghost use Rattle.reading.specs.Place.{Begins, lonely};
 ghost use Rattle.reading.specs.Reading.{On, Small, Few, Stepped, Goes};
 
 use crate::climb::{Climb, Mark, number_back, pass};
+use bits::iter::Bits;
 use bits::tape::Tape;
 
 /// The way back in front of a lot, from the lot before it: how many lots have none below them on either side, and whether the next one has none if a lot with children stands before it.
@@ -93,8 +94,8 @@ pub(crate) fn zero_first<T: Tape>(tape: &T, from: usize, x: usize, y: usize) -> 
 {
     let mut zeros = x;
     let mut ones = y;
-    for p in from..tape.len() {
-        if tape.get(p).unwrap_or(false) {
+    for bit in Bits::between(tape, from, tape.len()) {
+        if bit {
             if ones == 0 {
                 return false;
             }

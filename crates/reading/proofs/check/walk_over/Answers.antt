@@ -1,59 +1,86 @@
-use Rattle.std.proofs.Common.{◌≡◌, ◌<◌, ◌≤◌, [], ◌∷◌, length, drop, ap, ◌∙◌, arith}
-use Rattle.std.proofs.lemmas.List.{drop_all}
-use Rattle.bits.proofs.Bitlists.{set_at}
-use Rattle.leaders.specs.Verdict.{taken}
-use Rattle.reading.proofs.Checks.{step_one, step_first, step_zero, walk_end, drop_some, taken_none}
+use Rattle.std.proofs.Common.{◌≡◌, ◌+◌, ◌<◌, [], length, take, drop, refl, ap, ◌∙◌, arith, rules}
+use Rattle.std.proofs.lemmas.List.{length_push, length-drop, length-take}
+use Rattle.bits.specs.Bits.{bits_between}
+use Rattle.leaders.specs.Verdict.{walk}
+use Rattle.reading.specs.Lots.{lot_number}
+use Rattle.reading.proofs.Checks.{step_one, step_first, step_zero, walk_end, taken_le, path_some, path_none}
 use Rattle.reading.proofs.check.walk_over.Goals as goal
-use Rattle.reading.proofs.check.walk_over.Goals.{then-unwrap_or, else-unwrap_or+then-not-whole, else-unwrap_or+else-not-whole}
 
-pub loop-p-preserved : goal.loop-p-preserved
-loop-p-preserved g c =
+pub loop-bit-init : goal.loop-bit-init
+loop-bit-init g c =
     let bs = g.T.Tape.bits c.args.tape.now in
-    let b = c.unwrap_or.result in
-    let p = c.loop-p.p in
-    let e : b ≡ set_at bs p = cc in
-    let less : p < c.args.m = omega arith in
-    let short : c.args.m ≤ length bs = omega arith in
-    let st = drop c.loop-p.top c.loop-p.stack in
-    elim c.if-unwrap_or.branch [
-      | then-unwrap_or w ↦
-          let same : drop c.if-unwrap_or.top c.if-unwrap_or.stack ≡ st = cc (w.top-is, w.stack-is) in (
-            step_one bs p c.args.m b less short e c.loop-p.d c.if-unwrap_or.d st _ c.loop-p.lot c.if-unwrap_or.lot c.loop-p.at c.if-unwrap_or.at c.loop-p.bad c.if-unwrap_or.bad
-                w.if-unwrap_or.true w.d-is same w.lot-is w.at-is w.bad-is ∙ c.loop-p.invariant.0,
-            ap length w.stack-is ∙ c.loop-p.invariant.1,
-            omega (arith, w.d-is),
-            omega (arith, w.lot-is),
-            omega (arith, w.at-is),
-            omega (arith, w.top-is),
-            omega (arith, w.top-is),
-          )
-      | else-unwrap_or+then-not-whole w ↦
-          let same : drop c.if-unwrap_or.top c.if-unwrap_or.stack ≡ c.loop-p.d ∷ taken st = ap (λ z. drop z c.if-unwrap_or.stack) w.top-is ∙ ap (drop w.settle-settled.result.top) w.stack-is ∙ w.settle-settled.ensures.stack in (
-            step_zero bs p c.args.m b less short e c.loop-p.d c.if-unwrap_or.d st _ c.loop-p.lot c.if-unwrap_or.lot c.loop-p.at c.if-unwrap_or.at c.loop-p.bad c.if-unwrap_or.bad
-                w.settle-settled.result.before w.saturating_sub-size.result w.too_many.result
-                w.if-unwrap_or.false (drop_some c.loop-p.stack c.loop-p.top (omega (arith, w.if-not-whole.true))) w.d-is same w.lot-is w.settle-settled.ensures.before w.saturating_sub-size.ensures w.at-is
-                w.too_many.ensures (w.bad-is ∙ w.first_bad-bad.ensures) ∙ c.loop-p.invariant.0,
-            ap length w.stack-is ∙ w.settle-settled.auto.stack ∙ c.loop-p.invariant.1,
-            omega (arith, w.d-is),
-            omega (arith, w.lot-is),
-            omega (arith, w.at-is, w.saturating_sub-size.ensures, w.settle-settled.ensures.top),
-            omega (arith, w.top-is, w.settle-settled.ensures.top),
-            omega (arith, w.top-is, w.settle-settled.ensures.top),
-          )
-      | else-unwrap_or+else-not-whole w ↦
-          let none : st ≡ [] = drop_all c.loop-p.top c.loop-p.stack (omega (arith, w.if-not-whole.false)) in
-          let same : drop c.if-unwrap_or.top c.if-unwrap_or.stack ≡ c.loop-p.d ∷ [] =
-          ap (λ z. drop z c.if-unwrap_or.stack) w.top-is ∙ ap (drop w.settle-settled.result.top) w.stack-is ∙ w.settle-settled.ensures.stack ∙ ap (λ z. c.loop-p.d ∷ z) (taken_none st none) in (
-            step_first bs p c.args.m b less short e c.loop-p.d c.if-unwrap_or.d st _ c.loop-p.lot c.if-unwrap_or.lot c.loop-p.at c.if-unwrap_or.at c.loop-p.bad c.if-unwrap_or.bad
-                w.if-unwrap_or.false none w.d-is same w.lot-is w.at-is w.bad-is ∙ c.loop-p.invariant.0,
-            ap length w.stack-is ∙ w.settle-settled.auto.stack ∙ c.loop-p.invariant.1,
-            omega (arith, w.d-is),
-            omega (arith, w.lot-is),
-            omega (arith, w.at-is),
-            omega (arith, w.top-is, w.settle-settled.ensures.top),
-            omega (arith, w.top-is, w.settle-settled.ensures.top),
-          )
-    ]
+    let it = c.into_iter-bit-iterator.result in
+    let left : bits_between (g.T.Tape.bits it.tape.now) it.from it.upto ≡ drop 1 (take c.args.m bs) = search rules in (
+      ap (λ st. walk bs 0 st 0 c.args.m 0 (bits_between (g.T.Tape.bits it.tape.now) it.from it.upto)) c.new-path.ensures ∙ ap (walk bs 0 [] 0 c.args.m 0) left,
+      refl,
+      omega (arith, ap length left, length-drop 1 (take c.args.m bs), length-take c.args.m bs),
+      omega arith,
+      omega arith,
+      omega arith,
+      omega (arith, ap length c.new-path.ensures),
+    )
+
+pub loop-bit-preserved-then-bit : goal.loop-bit-preserved-then-bit
+loop-bit-preserved-then-bit g c =
+    let bs = g.T.Tape.bits c.args.tape.now in
+    let v = c.loop-bit in
+    let more = length_push v.yielded c.in-Some.bit in
+    let first = c.in-Some.ensures.steps in (
+      step_one bs _ _ c.in-Some.bit first v.d v.path v.lot v.at (lot_number v.bad) c.if-bit.true ∙ v.invariant.0,
+      v.invariant.1,
+      omega (arith, more, ap length first, v.invariant),
+      omega (arith, more, v.invariant),
+      omega (arith, more, v.invariant),
+      omega (arith, more, v.invariant),
+      omega (arith, more, v.invariant),
+    )
+
+pub loop-bit-preserved-then-not-root : goal.loop-bit-preserved-then-not-root
+loop-bit-preserved-then-not-root g c =
+    let bs = g.T.Tape.bits c.args.tape.now in
+    let v = c.loop-bit in
+    let more = length_push v.yielded c.in-Some.bit in
+    let first = c.in-Some.ensures.steps in
+    let path = c.settle-before.ensures.path in
+    let short = taken_le v.path in
+    let it = c.next.new.self in
+    let rest = bits_between (g.T.Tape.bits it.tape.now) it.from it.upto in
+    let some : 0 < length v.path = path_some v.path c.is_empty-root.result c.is_empty-root.ensures c.if-not-root.true in (
+      ap (λ st. walk bs 0 st (v.lot + 1) (v.at + c.saturating_sub-size.result) (lot_number c.first_bad-bad.result) rest) path
+          ∙ step_zero bs _ rest c.in-Some.bit first v.d v.path v.lot v.at (lot_number v.bad) c.settle-before.result c.saturating_sub-size.result (lot_number c.first_bad-bad.result) c.too_many.result
+          c.if-bit.false some c.settle-before.ensures.before c.saturating_sub-size.ensures c.too_many.ensures c.first_bad-bad.ensures.is
+          ∙ v.invariant.0,
+      c.first_bad-bad.ensures.lot,
+      omega (arith, more, ap length first, v.invariant),
+      omega (arith, more),
+      omega (arith, more, v.invariant),
+      omega (arith, more, c.saturating_sub-size.ensures, c.settle-before.ensures.short, v.invariant),
+      omega (arith, more, ap length path, short, v.invariant),
+    )
+
+pub loop-bit-preserved : goal.loop-bit-preserved
+loop-bit-preserved g c =
+    let bs = g.T.Tape.bits c.args.tape.now in
+    let v = c.loop-bit in
+    let more = length_push v.yielded c.in-Some.bit in
+    let first = c.in-Some.ensures.steps in
+    let path = c.settle-before.ensures.path in
+    let short = taken_le v.path in
+    let it = c.next.new.self in
+    let rest = bits_between (g.T.Tape.bits it.tape.now) it.from it.upto in
+    let none : v.path ≡ [] = path_none v.path c.is_empty-root.result c.is_empty-root.ensures c.if-not-root.false in (
+      ap (λ st. walk bs 0 st v.lot v.at (lot_number v.bad) rest) path
+          ∙ step_first bs _ rest c.in-Some.bit first v.d v.path v.lot v.at (lot_number v.bad) c.if-bit.false none
+          ∙ v.invariant.0,
+      v.invariant.1,
+      omega (arith, more, ap length first, v.invariant),
+      omega (arith, more),
+      omega (arith, more, v.invariant),
+      omega (arith, more, v.invariant),
+      omega (arith, more, ap length path, short, v.invariant),
+    )
 
 pub returns : goal.returns
-returns g c = walk_end (g.T.Tape.bits c.args.tape.now) c.loop-p.d (drop c.loop-p.top c.loop-p.stack) c.loop-p.lot c.loop-p.at c.loop-p.bad c.loop-p.p c.args.m (g.T.Tape.bits c.args.tape.now) (omega arith) ∙ c.loop-p.invariant.0
+returns g c =
+    let v = c.loop-bit in
+    walk_end (g.T.Tape.bits c.args.tape.now) v.d v.path v.lot v.at (lot_number v.bad) _ (c.in-None.ensures.steps).0 ∙ v.invariant.0

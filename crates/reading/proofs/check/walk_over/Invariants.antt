@@ -1,9 +1,12 @@
-use Rattle.std.proofs.Common.{◌≡◌, ◌+◌, ◌*◌, ◌≤◌, [], length, take, drop}
+use Rattle.std.proofs.Common.{◌≡◌, ◌+◌, ◌*◌, ◌<◌, ◌≤◌, true, [], length, take, drop}
+use Rattle.bits.specs.Bits.{bits_between}
 use Rattle.leaders.specs.Verdict.{walk}
+use Rattle.reading.specs.Lots.{lot_number, is_lot}
 use Rattle.reading.proofs.check.walk_over.Given as goal
 
-abbrev pub invariant-loop-p : goal.invariant-loop-p
-invariant-loop-p g l =
-    (walk (g.T.Tape.bits l.tape) l.d (drop l.top l.stack) l.lot l.at l.bad (drop l.p (take l.m (g.T.Tape.bits l.tape)))
+abbrev pub invariant-loop-bit : goal.invariant-loop-bit
+invariant-loop-bit g l =
+    let left = bits_between (g.T.Tape.bits l.bit-iterator.tape.now) l.bit-iterator.from l.bit-iterator.upto in
+    (walk (g.T.Tape.bits l.tape) l.d l.path l.lot l.at (lot_number l.bad) left
     ≡ walk (g.T.Tape.bits l.tape) 0 [] 0 l.m 0 (drop 1 (take l.m (g.T.Tape.bits l.tape))))
-    × (length l.stack ≡ 8002) × (l.d ≤ l.p) × (l.lot ≤ l.p) × (l.at ≤ l.m + 20000 * l.p) × (l.top ≤ 8002) × (8003 ≤ l.top + l.p)
+    × (is_lot l.bad ≡ true) × (length l.yielded + length left < 8002) × (l.d ≤ length l.yielded) × (l.lot ≤ length l.yielded) × (l.at ≤ l.m + 20000 * length l.yielded) × (length l.path ≤ length l.yielded)

@@ -1,4 +1,4 @@
-use Rattle.std.proofs.Common.{◌≡◌, ◌+◌, ◌-◌, ◌<◌, cond, sym, refl, ap, ◌∙◌, subst, inl, inr, arith}
+use Rattle.std.proofs.Common.{◌≡◌, ℕ, ◌+◌, ◌-◌, ◌<◌, Bool, true, false, cond, Some, sym, refl, ap, ◌∙◌, subst, inl, inr, arith}
 use Rattle.std.proofs.lemmas.Bool.{eq-eqb, ne_eqb, cases_lt}
 use Rattle.reading.specs.Reading.{reach, runner_up_of, On}
 use Rattle.reading.proofs.Marks.{chosen}
@@ -25,10 +25,14 @@ pub returns-then-k-high : goal.returns-then-k-high
 unfolding runner_up_of
 returns-then-k-high g c =
     let w = c.requires.swept in
-    rw (ne_eqb c.args.low c.args.s.all.best (omega (arith, c.if-low-k.false)), eq-eqb c.args.s.all.best c.args.high (omega (arith, w.upto, c.if-k-high.true))) (best g (goal.at.returns-then-k-high g c).After-go_back-near)
+    rw (ne_eqb c.args.low c.args.s.all.best (omega (arith, c.if-low-k.false)), eq-eqb c.args.s.all.best c.args.high (omega (arith, w.upto, c.if-k-high.true))) (ap Some (best g (goal.at.returns-then-k-high g c).After-go_back-near))
+
+cond_some : (t : Bool) (x y : ℕ) → cond t (Some x) (Some y) ≡ Some (cond t x y)
+cond_some true x y = refl
+cond_some false x y = refl
 
 -- what is found on both sides of the best lot, and which side the spine says is first
-found : (g : _) (c : After-left_first g) → cond c.left_first.result c.go_back-near.result.left.best c.args.s.right ≡ runner_up_of (g.T.Tape.bits c.args.tape.now) c.args.lots c.args.low c.args.high c.args.s.all.best
+found : (g : _) (c : After-left_first g) → cond c.left_first.result (Some c.go_back-near.result.left.best) c.args.s.right ≡ runner_up_of (g.T.Tape.bits c.args.tape.now) c.args.lots c.args.low c.args.high c.args.s.all.best
 found g c =
     let bs = g.T.Tape.bits c.args.tape.now in
     let w = c.requires.swept in
@@ -44,10 +48,12 @@ found g c =
     let a = near_best bs (m - 1) c.args.low _ near c.start_at-2.ensures c.go_back-near.ensures.is in
     let above = (reach bs (m + 1) c.args.high).above in
     let first = c.left_first.ensures near.left.best above front (begins_after bs m s.here w.here) (w.later k) in
-    chosen bs c.args.lots c.args.low c.args.high m near.left.best above s.right c.left_first.result h k a refl (w.right k) first
+    let next = (reach bs (m + 1) c.args.high).best in
+    ap (cond c.left_first.result (Some near.left.best)) (w.right k) ∙ cond_some c.left_first.result near.left.best next
+    ∙ chosen bs c.args.lots c.args.low c.args.high m near.left.best above next c.left_first.result h k a refl refl first
 
 pub returns-then-left_first : goal.returns-then-left_first
-returns-then-left_first g c = ap (λ t. cond t c.go_back-near.result.left.best c.args.s.right) (sym c.if-left_first.true) ∙ found g (goal.at.returns-then-left_first g c).After-left_first
+returns-then-left_first g c = ap (λ t. cond t (Some c.go_back-near.result.left.best) c.args.s.right) (sym c.if-left_first.true) ∙ found g (goal.at.returns-then-left_first g c).After-left_first
 
 pub returns-else-left_first : goal.returns-else-left_first
-returns-else-left_first g c = ap (λ t. cond t c.go_back-near.result.left.best c.args.s.right) (sym c.if-left_first.false) ∙ found g (goal.at.returns-else-left_first g c).After-left_first
+returns-else-left_first g c = ap (λ t. cond t (Some c.go_back-near.result.left.best) c.args.s.right) (sym c.if-left_first.false) ∙ found g (goal.at.returns-else-left_first g c).After-left_first

@@ -1,41 +1,37 @@
-use Rattle.std.proofs.Common.{◌≡◌, ◌+◌, ◌-◌, ◌<◌, length, drop, sym, ◌∙◌, arith}
-use Rattle.bits.proofs.Bitlists.{set_at}
+use Rattle.std.proofs.Common.{◌≡◌, drop, sym, ap, ◌∙◌, arith}
+use Rattle.std.proofs.lemmas.List.{take_all}
+use Rattle.bits.specs.Bits.{bits_between}
 use Rattle.leaders.specs.Tree.{sooner}
 use Rattle.reading.proofs.Readers.{sooner_one, sooner_zero, sooner_last_one, sooner_last_zero, sooner_done}
 use Rattle.reading.proofs.place.zero_first.Goals as goal
-use Rattle.reading.proofs.place.zero_first.Goals.{then-unwrap_or+else-ones-eq0, else-unwrap_or+else-zeros-eq0}
+
+pub loop-bit-init : goal.loop-bit-init
+loop-bit-init g c =
+    let bs = g.T.Tape.bits c.args.tape.now in
+    let all : bits_between bs c.args.from c.len.result ≡ drop c.args.from bs = ap (drop c.args.from) (take_all c.len.result bs (omega (arith, c.len.ensures.is))) in
+    ap (λ xs. sooner xs c.args.x c.args.y) (ap (λ s. bits_between (g.T.Tape.bits s.tape.now) s.from s.upto) c.into_iter-bit-iterator.ensures.into_iter_gives ∙ c.between-bit-items.ensures ∙ all)
+
+pub loop-bit-preserved : goal.loop-bit-preserved
+loop-bit-preserved g c =
+    sym (sooner_zero (bits_between (g.T.Tape.bits c.loop-bit.bit-iterator.tape.now) c.loop-bit.bit-iterator.from c.loop-bit.bit-iterator.upto) _ c.in-Some.bit c.loop-bit.zeros c.loop-bit.ones c.in-Some.ensures.steps c.if-bit.false (omega (arith, c.if-zeros-eq0.false)))
+    ∙ c.loop-bit.invariant
+
+pub loop-bit-preserved-then-bit : goal.loop-bit-preserved-then-bit
+loop-bit-preserved-then-bit g c =
+    sym (sooner_one (bits_between (g.T.Tape.bits c.loop-bit.bit-iterator.tape.now) c.loop-bit.bit-iterator.from c.loop-bit.bit-iterator.upto) _ c.in-Some.bit c.loop-bit.zeros c.loop-bit.ones c.in-Some.ensures.steps c.if-bit.true (omega (arith, c.if-ones-eq0.false)))
+    ∙ c.loop-bit.invariant
 
 pub returns-then-ones-eq0 : goal.returns-then-ones-eq0
 returns-then-ones-eq0 g c =
-    let bs = g.T.Tape.bits c.args.tape.now in
-    let b = c.unwrap_or.result in
-    let e : b ≡ set_at bs c.loop-p.p = cc in
-    sym (sooner_last_one bs c.loop-p.p b c.loop-p.zeros c.loop-p.ones (omega (arith, c.len-p-end.ensures.is)) e c.if-unwrap_or.true c.if-ones-eq0.true) ∙ c.loop-p.invariant
+    sym (sooner_last_one (bits_between (g.T.Tape.bits c.loop-bit.bit-iterator.tape.now) c.loop-bit.bit-iterator.from c.loop-bit.bit-iterator.upto) _ c.in-Some.bit c.loop-bit.zeros c.loop-bit.ones c.in-Some.ensures.steps c.if-bit.true c.if-ones-eq0.true)
+    ∙ c.loop-bit.invariant
 
 pub returns-then-zeros-eq0 : goal.returns-then-zeros-eq0
 returns-then-zeros-eq0 g c =
-    let bs = g.T.Tape.bits c.args.tape.now in
-    let b = c.unwrap_or.result in
-    let e : b ≡ set_at bs c.loop-p.p = cc in
-    sym (sooner_last_zero bs c.loop-p.p b c.loop-p.zeros c.loop-p.ones (omega (arith, c.len-p-end.ensures.is)) e c.if-unwrap_or.false c.if-zeros-eq0.true) ∙ c.loop-p.invariant
-
-pub loop-p-preserved : goal.loop-p-preserved
-loop-p-preserved g c =
-    let bs = g.T.Tape.bits c.args.tape.now in
-    let b = c.unwrap_or.result in
-    let p = c.loop-p.p in
-    let e : b ≡ set_at bs p = cc in
-    let less : p < length bs = omega (arith, c.len-p-end.ensures.is) in
-    elim c.if-unwrap_or.branch [
-      | then-unwrap_or+else-ones-eq0 w ↦
-          let f : sooner (drop (p + 1) bs) c.if-unwrap_or.zeros c.if-unwrap_or.ones ≡ sooner (drop (p + 1) bs) c.loop-p.zeros (c.loop-p.ones - 1) = cc (w.zeros-is, w.ones-is) in
-          f ∙ sym (sooner_one bs p b c.loop-p.zeros c.loop-p.ones less e w.if-unwrap_or.true (omega (arith, w.if-ones-eq0.false))) ∙ c.loop-p.invariant
-      | else-unwrap_or+else-zeros-eq0 w ↦
-          let f : sooner (drop (p + 1) bs) c.if-unwrap_or.zeros c.if-unwrap_or.ones ≡ sooner (drop (p + 1) bs) (c.loop-p.zeros - 1) c.loop-p.ones = cc (w.zeros-is, w.ones-is) in
-          f ∙ sym (sooner_zero bs p b c.loop-p.zeros c.loop-p.ones less e w.if-unwrap_or.false (omega (arith, w.if-zeros-eq0.false))) ∙ c.loop-p.invariant
-    ]
+    sym (sooner_last_zero (bits_between (g.T.Tape.bits c.loop-bit.bit-iterator.tape.now) c.loop-bit.bit-iterator.from c.loop-bit.bit-iterator.upto) _ c.in-Some.bit c.loop-bit.zeros c.loop-bit.ones c.in-Some.ensures.steps c.if-bit.false c.if-zeros-eq0.true)
+    ∙ c.loop-bit.invariant
 
 pub returns : goal.returns
 returns g c =
-    let bs = g.T.Tape.bits c.args.tape.now in
-    sym (sooner_done bs c.loop-p.p c.loop-p.zeros c.loop-p.ones (omega (arith, c.len-p-end.ensures.is))) ∙ c.loop-p.invariant
+    sym (sooner_done (bits_between (g.T.Tape.bits c.loop-bit.bit-iterator.tape.now) c.loop-bit.bit-iterator.from c.loop-bit.bit-iterator.upto) c.loop-bit.zeros c.loop-bit.ones (c.in-None.ensures.steps).0)
+    ∙ c.loop-bit.invariant
