@@ -57,7 +57,7 @@ Knows b None bits = Unit {0}
 Knows b (Some n) bits = Strict b × (sheet b n ≡ bits)
 
 -- What is found for a page: the pair that leads its range in every order whose sheet the bits are, or the refusal.
-abbrev pub Found : List Bool → Option ℕ → ℕ → ℕ → Result Pair BoardFault → Type 0
+abbrev pub Found : List Bool → Option ℕ → ℕ → ℕ → Result (Option Pair) BoardFault → Type 0
 Found bits None start size r = r ≡ Err NotTaken
 Found bits (Some n) start size (Err f) = (f ≡ NoPage) × (is_page n start size ≡ false)
 Found bits (Some n) start size (Ok p) = (is_page n start size ≡ true) × Shows bits n start (page_end n start size) p

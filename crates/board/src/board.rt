@@ -49,16 +49,12 @@ impl<T: Tape> Board<T> {
         ensures declined { OnErr result (P.Panel.shows panel.new ≡ Blank) }
         ensures shown { (b : ℕ → ℕ → Bool) → Knows b self.now.lots (T.Tape.bits self.now.tape) → P.Panel.shows panel.new ≡ page_shows b self.now.lots start size }
     {
-        match find(&self.tape, self.lots, start, size) {
-            Ok(pair) => {
-                panel.show(pair.best, pair.second);
-                Ok(())
-            }
-            Err(fault) => {
-                panel.blank();
-                Err(fault)
-            }
+        let found = self.find(start, size);
+        match found {
+            Ok(Some(pair)) => panel.show(pair.best, pair.second),
+            _ => panel.blank(),
         }
+        found.map(|_| ())
     }
 
     /// Writes the prices that the sheet's merge order defines, in lot order, and says how many. They lead every page as the real ones do.
@@ -69,44 +65,24 @@ impl<T: Tape> Board<T> {
         ensures past { IfOk result (λ n. drop n prices.new ≡ drop n prices.old) }
         ensures rest { IfOk result (λ n. drop (4 * suc n) work.new ≡ drop (4 * suc n) work.old) }
     {
-        write_prices(&self.tape, self.lots, prices, work)
+        let n = self.lots.ok_or(BoardFault::NotTaken)?;
+        rebuild_prices(&self.tape, n, prices, work)?;
+        Ok(n)
     }
-}
 
-/// The best and the second of a page, of these lots.
-fn find<T: Tape>(tape: &T, lots: Option<u32>, start: u32, size: u32) -> Result<Pair, BoardFault>
-    ensures { Found (T.Tape.bits tape.now) lots start size result }
-{
-    let Some(n) = lots else {
-        return Err(BoardFault::NotTaken);
-    };
-    if start == 0 || start > n || size == 0 {
-        return Err(BoardFault::NoPage);
+    /// The best and the second of a page.
+    fn find(&self, start: u32, size: u32) -> Result<Option<Pair>, BoardFault>
+        ensures { Found (T.Tape.bits self.now.tape) self.now.lots start size result }
+    {
+        let n = self.lots.ok_or(BoardFault::NotTaken)?;
+        if start == 0 || start > n || size == 0 {
+            return Err(BoardFault::NoPage);
+        }
+        let last = if size > n - start {
+            n
+        } else {
+            start + size - 1
+        };
+        Ok(pair_of(&self.tape, n, start, last))
     }
-    let last = if size > n - start {
-        n
-    } else {
-        start + size - 1
-    };
-    Ok(pair_of(tape, n, start, last))
-}
-
-/// Writes the prices of these lots.
-fn write_prices<T: Tape>(
-    tape: &T,
-    lots: Option<u32>,
-    prices: &mut [u32],
-    work: &mut [u32],
-) -> Result<u32, BoardFault>
-    ensures reply { answered told result ≡ rebuild_reply lots (length prices.old) (length work.old) }
-    ensures declined { OnErr result ((prices.new ≡ prices.old) × (work.new ≡ work.old)) }
-    ensures written { IfOk result (λ n. (b : ℕ → ℕ → Bool) → Knows b lots (T.Tape.bits tape.now) → Rewritten b n (T.Tape.bits tape.now) prices.old prices.new) }
-    ensures past { IfOk result (λ n. drop n prices.new ≡ drop n prices.old) }
-    ensures rest { IfOk result (λ n. drop (4 * suc n) work.new ≡ drop (4 * suc n) work.old) }
-{
-    let Some(n) = lots else {
-        return Err(BoardFault::NotTaken);
-    };
-    rebuild_prices(tape, n, prices, work)?;
-    Ok(n)
 }

@@ -6,7 +6,7 @@ ghost use Rattle.board.specs.Showing.{told, carries_board};
 use crate::fault::BoardFault;
 
 /// A call on a board.
-#[derive(Clone, Copy)]
+#[derive(Clone, Copy, PartialEq, Eq, Debug)]
 pub enum BoardCall {
     Take,
     /// On which panel, from 0; from which lot on; how many lots.
@@ -14,7 +14,7 @@ pub enum BoardCall {
 }
 
 /// What a call that is not declined answers.
-#[derive(Clone, Copy)]
+#[derive(Clone, Copy, PartialEq, Eq, Debug)]
 pub enum BoardReply {
     /// The sheet has so many lots.
     Taken(u32),
@@ -23,7 +23,7 @@ pub enum BoardReply {
 }
 
 /// Why a call in a list is declined.
-#[derive(Clone, Copy)]
+#[derive(Clone, Copy, PartialEq, Eq, Debug)]
 pub enum TurnFault {
     Board(BoardFault),
     /// A page names no panel.

@@ -7,7 +7,7 @@ use reading::check::SheetFault;
 use rebuilding::FewNumbers;
 
 /// Why a board declines a call.
-#[derive(Clone, Copy)]
+#[derive(Clone, Copy, PartialEq, Eq, Debug)]
 pub enum BoardFault {
     /// The tape is no sheet.
     Sheet(SheetFault),
