@@ -5,7 +5,7 @@ ghost use Rattle.std.specs.Prelude.{◌≡◌, vec_len, vec_capacity};
 ghost use Rattle.answers.specs.Room.{roomy};
 
 /// The list for the answers is not empty, or has not room for all of them.
-#[derive(Clone, Copy)]
+#[derive(Clone, Copy, PartialEq, Eq, Debug)]
 pub struct NoRoom;
 
 /// Whether a list is empty, and has room for the answers to so many calls.

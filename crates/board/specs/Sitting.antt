@@ -1,13 +1,14 @@
 -- What a list of takes and pages on a new board comes to, in the words of the subject.
-use Rattle.std.specs.Prelude.{◌≡◌, ℕ, ◌<◌, Bool, true, false, cond, ◌≢◌, List, [], ◌∷◌, ◌++◌, length, None, Err, Option, Result, nat_lt, slice_index_or}
-use Rattle.leaders.specs.Refusal.{Refusal, refusal}
+use Rattle.std.specs.Prelude.{◌≡◌, ℕ, ◌<◌, Bool, true, false, cond, ◌≢◌, List, [], ◌∷◌, ◌++◌, map, length, None, Err, Option, Result, nat_lt, slice_index_or}
+use Rattle.leaders.specs.Refusal.{Refusal, refusal, answered}
 use Rattle.panel.specs.declared.shown.Shown.{Shown}
 use Rattle.panel.specs.declared.shown.Shown.TheVariants.{Blank}
 use Rattle.board.specs.declared.call.BoardCall.{BoardCall}
 use Rattle.board.specs.declared.call.BoardCall.TheVariants.{Take, Page}
 use Rattle.board.specs.declared.call.BoardReply.{BoardReply}
 use Rattle.board.specs.Pages.{lots_by, page_reply, page_shows}
-use Rattle.board.specs.Showing.{take_answer, page_answer}
+use Rattle.board.specs.declared.call.TurnFault.{TurnFault}
+use Rattle.board.specs.Showing.{told, take_answer, page_answer}
 
 -- What the panels showed before; the calls on a new board as they were performed; the answers, and what the panels show after them.
 pub record Sitting : Type 0 where
@@ -18,6 +19,10 @@ pub record Sitting : Type 0 where
 
 abbrev pub sitting : List Shown → List BoardCall → List (Result BoardReply Refusal) → List Shown → Sitting
 sitting bs cs rs ss = record { before = bs; calls = cs; answers = rs; shown = ss }
+
+-- A list of takes and pages on a new board as it was performed, from what its panels are before and after.
+abbrev pub seated : {D : Type 0} → (D → Shown) → List D → List BoardCall → List (Result BoardReply TurnFault) → List D → Sitting
+seated shows panels calls answers panels-after = sitting (map shows panels) calls (map (answered told) answers) (map shows panels-after)
 
 -- One of the calls is a take.
 abbrev pub any_take : List BoardCall → Bool

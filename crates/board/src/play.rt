@@ -9,7 +9,7 @@ ghost use Rattle.leaders.specs.Verdict.{verdict};
 ghost use Rattle.board.specs.Faults.{told as board_told};
 ghost use Rattle.board.specs.Pages.{lots_by, Knows};
 ghost use Rattle.board.specs.Showing.{told, take_answer, page_answer, turn, turn_of, shows, idle};
-ghost use Rattle.board.specs.Sitting.{sitting, Sat};
+ghost use Rattle.board.specs.Sitting.{seated, Sat};
 
 use crate::board::Board;
 use crate::call::{BoardCall, BoardReply, TurnFault};
@@ -80,8 +80,8 @@ pub fn play_board<T: Tape + Drop, D: Panel>(
     calls: &[BoardCall],
     heap: Global,
 ) -> Result<Vec<Result<BoardReply, TurnFault>>, AllocError>
-    ensures sat { IfOk result (λ v. (b : ℕ → ℕ → Bool) → Knows b (lots_by (verdict (T.Tape.bits tape))) (T.Tape.bits tape) → Sat b (verdict (T.Tape.bits tape)) (sitting (map D.Panel.shows panels.old) calls.now (map (answered told) v.items) (map D.Panel.shows panels.new))) }
-    ensures leads { IfOk result (λ v. (b : ℕ → ℕ → Bool) → Strict b → (n : ℕ) → n ≤ 4000 → sheet b n ≡ T.Tape.bits tape → Sat b (Ok n) (sitting (map D.Panel.shows panels.old) calls.now (map (answered told) v.items) (map D.Panel.shows panels.new))) }
+    ensures sat { IfOk result (λ v. (b : ℕ → ℕ → Bool) → Knows b (lots_by (verdict (T.Tape.bits tape))) (T.Tape.bits tape) → Sat b (verdict (T.Tape.bits tape)) (seated D.Panel.shows panels.old calls.now v.items panels.new)) }
+    ensures leads { IfOk result (λ v. (b : ℕ → ℕ → Bool) → Strict b → (n : ℕ) → n ≤ 4000 → sheet b n ≡ T.Tape.bits tape → Sat b (Ok n) (seated D.Panel.shows panels.old calls.now v.items panels.new)) }
     ensures all { IfOk result (λ v. length v.items ≡ length calls.now) }
     ensures unplayed { OnErr result (panels.new ≡ panels.old) }
 {
@@ -97,8 +97,8 @@ pub fn play_board_noted<T: Tape + Drop, D: Panel>(
     room: Vec<Result<BoardReply, TurnFault>>,
 ) -> Result<Vec<Result<BoardReply, TurnFault>>, NoRoom>
     ensures reply { is_ok result ≡ roomy (vec_len room) (vec_capacity room) (length calls.now) }
-    ensures sat { IfOk result (λ v. (b : ℕ → ℕ → Bool) → Knows b (lots_by (verdict (T.Tape.bits tape))) (T.Tape.bits tape) → Sat b (verdict (T.Tape.bits tape)) (sitting (map D.Panel.shows panels.old) calls.now (map (answered told) v.items) (map D.Panel.shows panels.new))) }
-    ensures leads { IfOk result (λ v. (b : ℕ → ℕ → Bool) → Strict b → (n : ℕ) → n ≤ 4000 → sheet b n ≡ T.Tape.bits tape → Sat b (Ok n) (sitting (map D.Panel.shows panels.old) calls.now (map (answered told) v.items) (map D.Panel.shows panels.new))) }
+    ensures sat { IfOk result (λ v. (b : ℕ → ℕ → Bool) → Knows b (lots_by (verdict (T.Tape.bits tape))) (T.Tape.bits tape) → Sat b (verdict (T.Tape.bits tape)) (seated D.Panel.shows panels.old calls.now v.items panels.new)) }
+    ensures leads { IfOk result (λ v. (b : ℕ → ℕ → Bool) → Strict b → (n : ℕ) → n ≤ 4000 → sheet b n ≡ T.Tape.bits tape → Sat b (Ok n) (seated D.Panel.shows panels.old calls.now v.items panels.new)) }
     ensures all { IfOk result (λ v. length v.items ≡ length calls.now) }
     ensures unplayed { OnErr result (panels.new ≡ panels.old) }
 {

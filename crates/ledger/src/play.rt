@@ -1,12 +1,13 @@
 //! A whole list of calls on a new book.
 
-ghost use Rattle.std.specs.Prelude.{◌≡◌, ◌≤◌, [], map, length, take, drop, is_ok, IfOk, vec_len, vec_capacity, OnErr};
+ghost use Rattle.std.specs.Prelude.{◌≡◌, ◌≤◌, [], map, length, drop, is_ok, IfOk, vec_len, vec_capacity, OnErr};
 ghost use Rattle.answers.specs.Room.{roomy};
 ghost use Rattle.leaders.specs.Refusal.{answered};
 ghost use Rattle.book.specs.Faults.{told as book_told};
 ghost use Rattle.book.specs.Entries.{room_for};
 ghost use Rattle.book.specs.Held.{keys_in};
-ghost use Rattle.ledger.specs.Ledger.{told, terms, step, step_of, ledger, after, blank};
+ghost use Rattle.ledger.specs.Ledger.{told, terms, step, step_of};
+ghost use Rattle.ledger.specs.Plays.{played, ByTheLedger};
 
 use crate::call::{BookCall, CallFault};
 use answers::{NoRoom, has_room};
@@ -20,8 +21,7 @@ use std::alloc::{AllocError, Global};
 fn carried(reply: Result<u32, BookFault>) -> Result<u32, CallFault>
     ensures { answered told result ≡ answered book_told reply }
 {
-    let lots = reply?;
-    Ok(lots)
+    reply.map_err(CallFault::Book)
 }
 
 /// Performs one call on a book, beside some punches and working numbers.
@@ -63,7 +63,7 @@ pub fn play_into<K: Key + Copy, P: Punch>(
 ) -> Vec<Result<u32, CallFault>>
     requires empty { answers.items ≡ [] }
     requires room { length calls.now ≤ vec_capacity answers }
-    ensures ledger { ledger (take (length (after (terms K.Key.made K.Key.at_least (room_for (length list.old)) (map P.Punch.room punches.old) (length work.old)) (blank (map P.Punch.written punches.old)) calls.now).lots) list.new) (map P.Punch.written punches.new) (map (answered told) result.items) ≡ after (terms K.Key.made K.Key.at_least (room_for (length list.old)) (map P.Punch.room punches.old) (length work.old)) (blank (map P.Punch.written punches.old)) calls.now }
+    ensures ledger { ByTheLedger (played K.Key.made K.Key.at_least P.Punch.room P.Punch.written (length work.old) list.old punches.old calls.now result.items list.new punches.new) }
     ensures rooms { map P.Punch.room punches.new ≡ map P.Punch.room punches.old }
     ensures homes { map P.Punch.home punches.new ≡ map P.Punch.home punches.old }
     ensures rest { drop 16004 work.new ≡ drop 16004 work.old }
@@ -84,7 +84,7 @@ pub fn play_book<K: Key + Copy, P: Punch>(
     calls: &[BookCall],
     heap: Global,
 ) -> Result<Vec<Result<u32, CallFault>>, AllocError>
-    ensures ledger { IfOk result (λ v. ledger (take (length (after (terms K.Key.made K.Key.at_least (room_for (length list.old)) (map P.Punch.room punches.old) (length work.old)) (blank (map P.Punch.written punches.old)) calls.now).lots) list.new) (map P.Punch.written punches.new) (map (answered told) v.items) ≡ after (terms K.Key.made K.Key.at_least (room_for (length list.old)) (map P.Punch.room punches.old) (length work.old)) (blank (map P.Punch.written punches.old)) calls.now) }
+    ensures ledger { IfOk result (λ v. ByTheLedger (played K.Key.made K.Key.at_least P.Punch.room P.Punch.written (length work.old) list.old punches.old calls.now v.items list.new punches.new)) }
     ensures rooms { map P.Punch.room punches.new ≡ map P.Punch.room punches.old }
     ensures homes { map P.Punch.home punches.new ≡ map P.Punch.home punches.old }
     ensures rest { drop 16004 work.new ≡ drop 16004 work.old }
@@ -103,7 +103,7 @@ pub fn play_book_noted<K: Key + Copy, P: Punch>(
     room: Vec<Result<u32, CallFault>>,
 ) -> Result<Vec<Result<u32, CallFault>>, NoRoom>
     ensures reply { is_ok result ≡ roomy (vec_len room) (vec_capacity room) (length calls.now) }
-    ensures ledger { IfOk result (λ v. ledger (take (length (after (terms K.Key.made K.Key.at_least (room_for (length list.old)) (map P.Punch.room punches.old) (length work.old)) (blank (map P.Punch.written punches.old)) calls.now).lots) list.new) (map P.Punch.written punches.new) (map (answered told) v.items) ≡ after (terms K.Key.made K.Key.at_least (room_for (length list.old)) (map P.Punch.room punches.old) (length work.old)) (blank (map P.Punch.written punches.old)) calls.now) }
+    ensures ledger { IfOk result (λ v. ByTheLedger (played K.Key.made K.Key.at_least P.Punch.room P.Punch.written (length work.old) list.old punches.old calls.now v.items list.new punches.new)) }
     ensures rooms { map P.Punch.room punches.new ≡ map P.Punch.room punches.old }
     ensures homes { map P.Punch.home punches.new ≡ map P.Punch.home punches.old }
     ensures rest { drop 16004 work.new ≡ drop 16004 work.old }

@@ -10,7 +10,8 @@ use Rattle.ledger.specs.declared.call.BookCall.TheVariants.{Add, Strike, NewKey,
 use Rattle.book.specs.Entries.{entry, add_key, set_key, is_lot, sheet_of}
 use Rattle.ledger.specs.Ledger.{Terms, Step, step, punched, step_of, Ledger, after1, after, blank}
 use Rattle.board.proofs.Sittings.{split_same}
-use Rattle.sale.specs.Promise.{Play, ledger_at, ByTheLedger, CastAfter}
+use Rattle.ledger.specs.Plays.{Play, ledger_at, ByTheLedger}
+use Rattle.sale.specs.Promise.{CastAfter}
 
 module _ {K : Type 0} (t : Terms K) where
   pub after_append : (l : Ledger K) (xs zs : List BookCall) → after t l (xs ++ zs) ≡ after t (after t l xs) zs

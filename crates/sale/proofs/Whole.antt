@@ -11,7 +11,8 @@ use Rattle.board.specs.Pages.{lots_by, Knows}
 use Rattle.board.specs.Showing.{take_answer}
 use Rattle.board.specs.Sitting.{Sitting, Sat}
 use Rattle.board.proofs.Sittings.{some_order, knows_sheet}
-use Rattle.sale.specs.Promise.{Play, ledger_at, order, ByTheLedger, EqualSheets, CastByBook, TakenWhenCast, Led, Declined, ShownBy, Return, Rebuilt, Promise}
+use Rattle.ledger.specs.Plays.{Play, ledger_at, order, ByTheLedger}
+use Rattle.sale.specs.Promise.{EqualSheets, CastByBook, TakenWhenCast, Led, Declined, ShownBy, Return, Rebuilt, Promise}
 use Rattle.sale.proofs.Histories.{after_few, cast_is, ends_in}
 use Rattle.sale.proofs.Priced.{cast_by_book}
 

@@ -10,14 +10,10 @@ use Rattle.keys.specs.declared.price.Price.{Price}
 use Rattle.keys.specs.Prices.{price_at_least, price_of}
 use Rattle.ledger.specs.declared.call.BookCall.{BookCall}
 use Rattle.ledger.specs.declared.call.BookCall.TheVariants.{Add, Cast}
-use Rattle.ledger.specs.declared.call.CallFault.{CallFault}
-use Rattle.book.specs.Entries.{room_for}
-use Rattle.ledger.specs.Ledger.{Terms, terms, Ledger, ledger, after, blank, told as book_told}
-use Rattle.panel.specs.declared.shown.Shown.{Shown}
+use Rattle.ledger.specs.Ledger.{terms, Ledger, after, blank}
+use Rattle.ledger.specs.Plays.{Play, ledger_at, order, ByTheLedger}
 use Rattle.board.specs.declared.fault.BoardFault.{BoardFault}
-use Rattle.board.specs.declared.call.TurnFault.{TurnFault}
 use Rattle.board.specs.Faults.{told as board_told}
-use Rattle.board.specs.Showing.{told as turn_told}
 use Rattle.board.specs.declared.call.BoardCall.{BoardCall}
 use Rattle.board.specs.declared.call.BoardCall.TheVariants.{Take}
 use Rattle.board.specs.declared.call.BoardReply.{BoardReply}
@@ -25,41 +21,6 @@ use Rattle.board.specs.declared.call.BoardReply.TheVariants.{Taken}
 use Rattle.rebuilding.specs.Rebuilding.{enough}
 use Rattle.board.specs.Sitting.{Sitting, sitting, Answers, Sat}
 use Rattle.sale.specs.declared.rehearsal.Lists.{Lists}
-
--- A list of calls on a new book as it was played: on which terms, what the punches held before, and the calls; then the answers, the lent list and the punches' bits.
-pub record Play (K : Type 0) : Type 0 where
-  pub terms : Terms K
-  pub before : List (List Bool)
-  pub calls : List BookCall
-  pub answers : List (Result ℕ Refusal)
-  pub list : List K
-  pub bits : List (List Bool)
-
--- Such a list, from what a book is lent before and after: of keys of a kind and punches of a make, with so many working numbers.
-abbrev pub played : {K P : Type 0} → (List ℕ → Option K) → (K → K → Bool) → (P → ℕ) → (P → List Bool) → ℕ → List K → List P → List BookCall → List (Result ℕ CallFault) → List K → List P → Play K
-played made at_least room written work list punches calls answers list-after punches-after = record {
-  terms = terms made at_least (room_for (length list)) (map room punches) work;
-  before = map written punches;
-  calls = calls;
-  answers = map (answered book_told) answers;
-  list = list-after;
-  bits = map written punches-after;
-}
-
--- A list of takes and pages on a new board as it was performed, from what its panels are before and after.
-abbrev pub seated : {D : Type 0} → (D → Shown) → List D → List BoardCall → List (Result BoardReply TurnFault) → List D → Sitting
-seated shows panels calls answers panels-after = sitting (map shows panels) calls (map (answered turn_told) answers) (map shows panels-after)
-
--- The ledger after some calls on that book's terms, and the order of some of its keys.
-abbrev pub ledger_at : {K : Type 0} → Play K → List BookCall → Ledger K
-ledger_at p cs = after p.terms (blank p.before) cs
-
-abbrev pub order : {K : Type 0} → Play K → List K → ℕ → ℕ → Bool
-order p ks = beats p.terms.at_least ks
-
--- Lots, bits and refusals are those of the ledger fed the same calls.
-abbrev pub ByTheLedger : {K : Type 0} → Play K → Type 0
-ByTheLedger p = ledger (take (length (ledger_at p p.calls).lots) p.list) p.bits p.answers ≡ ledger_at p p.calls
 
 -- After the calls f comes a cast into the punch n, which is accepted, and then come the calls g.
 pub record CastAfter {K : Type 0} (p : Play K) (f : List BookCall) (n : ℕ) (g : List BookCall) : Type 0 where

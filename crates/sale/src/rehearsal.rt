@@ -1,7 +1,9 @@
 //! A whole sale, played from beginning to end.
 
 ghost use Rattle.std.specs.Prelude.{◌≡◌, true, map, length, drop, is_ok, IfOk, OnErr};
-ghost use Rattle.sale.specs.Promise.{played, seated, returned, roomy_for, Rebuilt, Promise};
+ghost use Rattle.ledger.specs.Plays.{played};
+ghost use Rattle.board.specs.Sitting.{seated};
+ghost use Rattle.sale.specs.Promise.{returned, roomy_for, Rebuilt, Promise};
 
 use answers::{NoRoom, has_room};
 use bits::punch::Punch;

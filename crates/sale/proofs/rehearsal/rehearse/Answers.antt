@@ -5,7 +5,8 @@ use Rattle.leaders.proofs.Strictly.{keys_order_lots}
 use Rattle.board.specs.Pages.{lots_by, Knows}
 use Rattle.board.specs.Sitting.{Sat}
 use Rattle.board.proofs.Sittings.{sat, some_order, all_answered}
-use Rattle.sale.specs.Promise.{played, seated, ByTheLedger}
+use Rattle.ledger.specs.Plays.{played, ByTheLedger}
+use Rattle.board.specs.Sitting.{seated}
 use Rattle.sale.proofs.Roomy.{rooms_are}
 use Rattle.sale.proofs.Whole.{Kept, promise}
 use Rattle.sale.proofs.rehearsal.rehearse.Goals as goal
