@@ -1,10 +1,11 @@
 //! Why a board declines a call.
 
-ghost use Rattle.std.specs.Prelude.{◌≡◌};
-ghost use Rattle.board.specs.Faults.{told, carries, carries_few};
+ghost use Rattle.std.specs.Prelude.{◌≡◌, Some};
+ghost use Rattle.board.specs.Faults.{told, sentence, carries, carries_few};
 
 use reading::check::SheetFault;
 use rebuilding::FewNumbers;
+use std::fmt;
 
 /// Why a board declines a call.
 #[derive(Clone, Copy, PartialEq, Eq, Debug)]
@@ -32,6 +33,23 @@ impl From<FewNumbers> for BoardFault {
 
     fn from(_fault: FewNumbers) -> BoardFault {
         BoardFault::NoRoom
+    }
+}
+
+impl fmt::Display for BoardFault {
+    ghost output = { λ fault. Some (sentence fault) };
+
+    fn fmt<W: fmt::Write>(&self, f: &mut fmt::Formatter<W>) -> fmt::Result {
+        match self {
+            BoardFault::Sheet(fault) => write!(f, "{fault}"),
+            BoardFault::NotTaken => f.write_str("it is not shown, since no sheet is taken."),
+            BoardFault::NoPage => f.write_str(
+                "it is not shown, since it begins at no lot of the sheet, or has size 0.",
+            ),
+            BoardFault::NoRoom => {
+                f.write_str("there are too few prices or working numbers to rebuild with.")
+            }
+        }
     }
 }
 

@@ -1,5 +1,5 @@
 -- The refusals of a tape that is no sheet.
-use Rattle.std.specs.Prelude.{[], ◌∷◌}
+use Rattle.std.specs.Prelude.{ℕ, List, [], ◌∷◌, ◌++◌, codes, decimal}
 use Rattle.leaders.specs.Refusal.{Refusal, refusal}
 use Rattle.reading.specs.declared.check.SheetFault.{SheetFault}
 use Rattle.reading.specs.declared.check.SheetFault.TheVariants.{Unbalanced, TooManyLots, WrongLength, BadWord}
@@ -11,3 +11,10 @@ told Unbalanced = refusal 7 []
 told TooManyLots = refusal 8 []
 told WrongLength = refusal 9 []
 told (BadWord lot) = refusal 10 (lot ∷ [])
+
+-- The refusal in a sentence.
+abbrev pub sentence : SheetFault → List ℕ
+sentence Unbalanced = codes "This is no sheet: its brackets do not begin, or never close."
+sentence TooManyLots = codes "This is no sheet: it has more than 4,000 lots."
+sentence WrongLength = codes "This is no sheet: it has too few or too many letters after its brackets."
+sentence (BadWord lot) = codes "This is no sheet: the spine of lot " ++ decimal lot ++ codes " is wrong."

@@ -1,15 +1,16 @@
 //! Whether the bits of a tape are a sheet.
 
-ghost use Rattle.std.specs.Prelude.{◌≡◌, true, ◌≤◌, [], length, take, drop};
+ghost use Rattle.std.specs.Prelude.{◌≡◌, true, ◌≤◌, [], length, take, drop, Some};
 ghost use Rattle.leaders.specs.Refusal.{answered};
 ghost use Rattle.leaders.specs.Verdict.{closes, has_too_many, lowest, walk, walked, verdict};
-ghost use Rattle.reading.specs.Faults.{told};
+ghost use Rattle.reading.specs.Faults.{told, sentence};
 ghost use Rattle.reading.specs.Lots.{lot_number, is_lot};
 
 use crate::path::Path;
 use bits::iter::Bits;
 use bits::tape::Tape;
 use bits::views::Window;
+use std::fmt;
 
 /// Why a tape is not taken.
 #[derive(Clone, Copy, PartialEq, Eq, Debug)]
@@ -34,6 +35,27 @@ impl SheetFault {
             SheetFault::TooManyLots => 8,
             SheetFault::WrongLength => 9,
             SheetFault::BadWord(_) => 10,
+        }
+    }
+}
+
+impl fmt::Display for SheetFault {
+    ghost output = { λ fault. Some (sentence fault) };
+
+    fn fmt<W: fmt::Write>(&self, f: &mut fmt::Formatter<W>) -> fmt::Result {
+        match self {
+            SheetFault::Unbalanced => {
+                f.write_str("This is no sheet: its brackets do not begin, or never close.")
+            }
+            SheetFault::TooManyLots => f.write_str(
+                "This is no sheet: it has more than 4,000 lots.",
+            ),
+            SheetFault::WrongLength => f.write_str(
+                "This is no sheet: it has too few or too many letters after its brackets.",
+            ),
+            SheetFault::BadWord(lot) => {
+                write!(f, "This is no sheet: the spine of lot {lot} is wrong.")
+            }
         }
     }
 }

@@ -4,7 +4,6 @@
 use board::fault::BoardFault;
 use panel::digit_panel::DigitPanel;
 use panel::line_panel::LinePanel;
-use reading::check::SheetFault;
 use std::io::Write;
 
 /// The segments on the left, in the middle and on the right of each row of a digit. Segments a to g are bits 0 to 6.
@@ -12,27 +11,7 @@ const ROWS: [(u8, u8, u8); 3] = [(0, 0x01, 0), (0x20, 0x40, 0x02), (0x10, 0x08, 
 
 /// Tells why a sheet is not taken, a page not shown, or nothing rebuilt.
 pub fn tell_refusal(rt: &HostRuntime, fault: BoardFault) -> anyhow::Result<()> {
-    let why = match fault {
-        BoardFault::Sheet(SheetFault::Unbalanced) => {
-            "This is no sheet: its brackets do not begin, or never close."
-        }
-        BoardFault::Sheet(SheetFault::TooManyLots) => {
-            "This is no sheet: it has more than 4,000 lots."
-        }
-        BoardFault::Sheet(SheetFault::WrongLength) => {
-            "This is no sheet: it has too few or too many letters after its brackets."
-        }
-        BoardFault::Sheet(SheetFault::BadWord(lot)) => {
-            println!(rt; "This is no sheet: the spine of lot {lot} is wrong.")?;
-            return Ok(());
-        }
-        BoardFault::NotTaken => "it is not shown, since no sheet is taken.",
-        BoardFault::NoPage => {
-            "it is not shown, since it begins at no lot of the sheet, or has size 0."
-        }
-        BoardFault::NoRoom => "there are too few prices or working numbers to rebuild with.",
-    };
-    println!(rt; "{why}")?;
+    println!(rt; "{fault}")?;
     Ok(())
 }
 
