@@ -65,10 +65,7 @@ impl<'a, K: Key + Copy> Book<'a, K> {
         ensures lender { self.new.list.ghost_name ≡ self.old.list.ghost_name }
     {
         let n = self.len();
-        if lot < 1 {
-            return Err(BookFault::NoSuchLot);
-        }
-        if n < lot {
+        if lot < 1 || n < lot {
             return Err(BookFault::NoSuchLot);
         }
         close(self.list, (lot - 1) as usize, n as usize);
@@ -86,10 +83,7 @@ impl<'a, K: Key + Copy> Book<'a, K> {
             return Err(BookFault::BadFields);
         };
         let n = self.len();
-        if lot < 1 {
-            return Err(BookFault::NoSuchLot);
-        }
-        if n < lot {
+        if lot < 1 || n < lot {
             return Err(BookFault::NoSuchLot);
         }
         put(self.list, (lot - 1) as usize, key);
