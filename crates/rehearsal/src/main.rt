@@ -1,7 +1,6 @@
 //! Plays one sale from beginning to end, and tells it in sentences.
 #![tactic(auto)]
 
-use answers::NoRoom;
 use anyhow::anyhow;
 use bits::punch::{LetteredPunch, Punch};
 use bits::tape::{LetteredTape, Tape};
@@ -13,7 +12,7 @@ use ledger::play::play_book_noted;
 use panel::Panel;
 use panel::digit_panel::DigitPanel;
 use panel::line_panel::LinePanel;
-use sale::rehearsal::{Lists, Sale, rehearse};
+use sale::rehearsal::{BoardSide, BookSide, Lists, RebuildSide, Sale, rehearse};
 use std::alloc::{AllocError, Global};
 use std::io::Write;
 use telling::{draw_digits, draw_line, tell_refusal};
@@ -40,6 +39,7 @@ const NUMBERS: usize = 28;
 const LETTERS: usize = 32;
 
 /// What two books are to hold, and where their sheets are written.
+#[derive(Drop)]
 struct Books<'a> {
     first: &'a [u32],
     second: &'a [u32],
@@ -75,41 +75,32 @@ fn play<D: Panel>(
     panels: &mut [D],
     prices: &mut [u32],
 ) -> anyhow::Result<Sale> {
-    let Books {
-        first,
-        second,
-        first_sheet,
-        second_sheet,
-    } = books;
-    let calls = calls_of(heap, first)?;
-    let other_calls = calls_of(heap, second)?;
+    let calls = calls_of(heap, books.first)?;
+    let other_calls = calls_of(heap, books.second)?;
     let board_calls = turns(heap)?;
-    let mut list = [Price { cents: 0 }; 6];
-    let mut other_list = [Price { cents: 0 }; 6];
-    let mut punches = [LetteredPunch::new(first_sheet)];
-    let mut other_punches = [LetteredPunch::new(second_sheet)];
-    let mut work = [0; NUMBERS];
-    let mut numbers = [0; NUMBERS];
-    let lists = Lists::with_room(calls.len(), other_calls.len(), board_calls.len(), heap)?;
-    let sale = rehearse(
-        &mut list,
-        &mut punches,
-        calls.as_slice(),
-        &mut other_list,
-        &mut other_punches,
-        other_calls.as_slice(),
-        &mut work,
-        LetteredTape { text: tape },
+    let room = Lists::with_room(calls.len(), other_calls.len(), board_calls.len(), heap)?;
+    let mut one = BookSide {
+        list: &mut [Price { cents: 0 }; 6],
+        punches: &mut [LetteredPunch::new(books.first_sheet)],
+        calls: calls.as_slice(),
+    };
+    let mut two = BookSide {
+        list: &mut [Price { cents: 0 }; 6],
+        punches: &mut [LetteredPunch::new(books.second_sheet)],
+        calls: other_calls.as_slice(),
+    };
+    let mut hall = BoardSide {
+        tape: LetteredTape { text: tape },
         panels,
-        board_calls.as_slice(),
+        calls: board_calls.as_slice(),
+    };
+    let mut out = RebuildSide {
         prices,
-        &mut numbers,
-        lists,
-    );
-    match sale {
-        Ok(answers) => Ok(answers),
-        Err(NoRoom) => Err(anyhow!("there is no room for the answers")),
-    }
+        work: &mut [0; NUMBERS],
+    };
+    let work = &mut [0; NUMBERS];
+    let sale = rehearse(&mut one, &mut two, work, &mut hall, &mut out, room);
+    sale.map_err(|_| anyhow!("there is no room for the answers"))
 }
 
 /// The letters that the last call, a cast, has written.

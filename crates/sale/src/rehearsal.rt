@@ -1,9 +1,10 @@
 //! A whole sale, played from beginning to end.
 
-ghost use Rattle.std.specs.Prelude.{◌≡◌, true, map, length, drop, is_ok, IfOk, OnErr};
+ghost use Rattle.std.specs.Prelude.{◌≡◌, true, length, drop, is_ok, IfOk, OnErr};
 ghost use Rattle.ledger.specs.Plays.{played};
 ghost use Rattle.board.specs.Sitting.{seated};
 ghost use Rattle.sale.specs.Promise.{returned, roomy_for, Rebuilt, Promise};
+ghost use Rattle.sale.specs.Sides.{SameBook, SameBoard, SameLists};
 
 use answers::{NoRoom, has_room};
 use bits::punch::Punch;
@@ -77,52 +78,76 @@ impl Lists {
     }
 }
 
+/// A new book to be: the list that it is lent, the punches beside it, and the calls on it.
+#[derive(Drop)]
+pub struct BookSide<'a, K, P> {
+    pub list: &'a mut [K],
+    pub punches: &'a mut [P],
+    pub calls: &'a [BookCall],
+}
+
+/// A new board to be: the tape that it stands over, the panels beside it, and the calls on it.
+#[derive(Drop)]
+pub struct BoardSide<'a, T, D> {
+    pub tape: T,
+    pub panels: &'a mut [D],
+    pub calls: &'a [BoardCall],
+}
+
+/// Where prices are rebuilt, and the working numbers for it.
+#[derive(Drop)]
+pub struct RebuildSide<'a> {
+    pub prices: &'a mut [u32],
+    pub work: &'a mut [u32],
+}
+
 /// Plays a list of calls on a new book, another on a second new book, maybe of another kind of key, and a list of takes and pages on a new board over
-/// the tape; then rebuilds prices from the tape. The answers go into lists that have room for them; without that nothing is played.
+/// a tape; then rebuilds prices from the tape. The answers go into lists that have room for them; without that nothing is played.
 pub fn rehearse<K: Key + Copy, L: Key + Copy, P: Punch, Q: Punch, T: Tape + Copy, D: Panel>(
-    list: &mut [K],
-    punches: &mut [P],
-    calls: &[BookCall],
-    other_list: &mut [L],
-    other_punches: &mut [Q],
-    other_calls: &[BookCall],
+    first: &mut BookSide<'_, K, P>,
+    second: &mut BookSide<'_, L, Q>,
     work: &mut [u32],
-    tape: T,
-    panels: &mut [D],
-    board_calls: &[BoardCall],
-    prices: &mut [u32],
-    numbers: &mut [u32],
+    board: &mut BoardSide<'_, T, D>,
+    rebuilt: &mut RebuildSide<'_>,
     lists: Lists,
 ) -> Result<Sale, NoRoom>
-    ensures reply { is_ok result ≡ roomy_for lists (length calls.now) (length other_calls.now) (length board_calls.now) }
+    ensures reply { is_ok result ≡ roomy_for lists (length first.old.calls.now) (length second.old.calls.now) (length board.old.calls.now) }
     ensures promise { IfOk result (λ v. Promise
-        (played K.Key.made K.Key.at_least P.Punch.room P.Punch.written (length work.old) list.old punches.old calls.now v.first.items list.new punches.new)
-        (played L.Key.made L.Key.at_least Q.Punch.room Q.Punch.written (length work.old) other_list.old other_punches.old other_calls.now v.second.items other_list.new other_punches.new)
-        (T.Tape.bits tape)
-        (seated D.Panel.shows panels.old board_calls.now v.board.items panels.new)
-        (returned prices.old numbers.old prices.new numbers.new v.rebuilt)) }
-    ensures rooms { (map P.Punch.room punches.new ≡ map P.Punch.room punches.old) × (map Q.Punch.room other_punches.new ≡ map Q.Punch.room other_punches.old) }
-    ensures homes { (map P.Punch.home punches.new ≡ map P.Punch.home punches.old) × (map Q.Punch.home other_punches.new ≡ map Q.Punch.home other_punches.old) }
+        (played K.Key.made K.Key.at_least P.Punch.room P.Punch.written (length work.old) first.old.list.now first.old.punches.now first.old.calls.now v.first.items first.new.list.now first.new.punches.now)
+        (played L.Key.made L.Key.at_least Q.Punch.room Q.Punch.written (length work.old) second.old.list.now second.old.punches.now second.old.calls.now v.second.items second.new.list.now second.new.punches.now)
+        (T.Tape.bits board.old.tape)
+        (seated D.Panel.shows board.old.panels.now board.old.calls.now v.board.items board.new.panels.now)
+        (returned rebuilt.old.prices.now rebuilt.old.work.now rebuilt.new.prices.now rebuilt.new.work.now v.rebuilt)) }
+    ensures first { SameBook P.Punch.room P.Punch.home first.old first.new }
+    ensures second { SameBook Q.Punch.room Q.Punch.home second.old second.new }
+    ensures board { SameBoard board.old board.new }
+    ensures rebuilt { SameLists rebuilt.old rebuilt.new }
     ensures rest { drop 16004 work.new ≡ drop 16004 work.old }
-    ensures unplayed { OnErr result ((list.new ≡ list.old) × (punches.new ≡ punches.old) × (other_list.new ≡ other_list.old) × (other_punches.new ≡ other_punches.old) × (work.new ≡ work.old) × (panels.new ≡ panels.old) × (prices.new ≡ prices.old) × (numbers.new ≡ numbers.old)) }
+    ensures unplayed { OnErr result ((first.new ≡ first.old) × (second.new ≡ second.old) × (work.new ≡ work.old) × (board.new ≡ board.old) × (rebuilt.new ≡ rebuilt.old)) }
 {
-    if !lists.have_room(calls.len(), other_calls.len(), board_calls.len()) {
+    if !lists.have_room(first.calls.len(), second.calls.len(), board.calls.len()) {
         return Err(NoRoom);
     }
-    let first = ledger::play::play_into(list, punches, work, calls, lists.first);
-    let second = ledger::play::play_into(
-        other_list,
-        other_punches,
+    let first_answers = ledger::play::play_into(
+        first.list,
+        first.punches,
         work,
-        other_calls,
+        first.calls,
+        lists.first,
+    );
+    let second_answers = ledger::play::play_into(
+        second.list,
+        second.punches,
+        work,
+        second.calls,
         lists.second,
     );
-    let board = board::play::play_into(tape, panels, board_calls, lists.board);
-    let rebuilt = rebuild_from(tape, prices, numbers);
+    let board_answers = board::play::play_into(board.tape, board.panels, board.calls, lists.board);
+    let lots = rebuild_from(board.tape, rebuilt.prices, rebuilt.work);
     Ok(Sale {
-        first,
-        second,
-        board,
-        rebuilt,
+        first: first_answers,
+        second: second_answers,
+        board: board_answers,
+        rebuilt: lots,
     })
 }
