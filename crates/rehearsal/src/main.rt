@@ -38,13 +38,11 @@ const NUMBERS: usize = 28;
 /// Room for the letters of a sheet of six lots, and more.
 const LETTERS: usize = 32;
 
-/// What two books are to hold, and where their sheets are written.
+/// What a book is to hold, and where its sheet is written.
 #[derive(Drop)]
-struct Books<'a> {
-    first: &'a [u32],
-    second: &'a [u32],
-    first_sheet: &'a mut [u8],
-    second_sheet: &'a mut [u8],
+struct Priced<'a> {
+    prices: &'a [u32],
+    sheet: &'a mut [u8],
 }
 
 /// An add for each price, and a cast.
@@ -70,23 +68,24 @@ fn turns(heap: Global) -> Result<Vec<BoardCall>, AllocError> {
 /// Plays a sale of two books of prices, with a board over `tape`; rebuilds prices from it.
 fn play<D: Panel>(
     heap: Global,
-    books: Books<'_>,
+    first: Priced<'_>,
+    second: Priced<'_>,
     tape: &[u8],
     panels: &mut [D],
     prices: &mut [u32],
 ) -> anyhow::Result<Sale> {
-    let calls = calls_of(heap, books.first)?;
-    let other_calls = calls_of(heap, books.second)?;
+    let calls = calls_of(heap, first.prices)?;
+    let other_calls = calls_of(heap, second.prices)?;
     let board_calls = turns(heap)?;
     let room = Lists::with_room(calls.len(), other_calls.len(), board_calls.len(), heap)?;
     let mut one = BookSide {
         list: &mut [Price { cents: 0 }; 6],
-        punches: &mut [LetteredPunch::new(books.first_sheet)],
+        punches: &mut [LetteredPunch::new(first.sheet)],
         calls: calls.as_slice(),
     };
     let mut two = BookSide {
         list: &mut [Price { cents: 0 }; 6],
-        punches: &mut [LetteredPunch::new(books.second_sheet)],
+        punches: &mut [LetteredPunch::new(second.sheet)],
         calls: other_calls.as_slice(),
     };
     let mut hall = BoardSide {
@@ -205,13 +204,15 @@ fn sale_on_lines(rt: &HostRuntime, sheet: &[u8], prices: &mut [u32]) -> anyhow::
         LinePanel::new(),
         LinePanel::new(),
     ];
-    let books = Books {
-        first: &PRICES,
-        second: &OTHERS,
-        first_sheet: &mut first_sheet,
-        second_sheet: &mut second_sheet,
+    let first = Priced {
+        prices: &PRICES,
+        sheet: &mut first_sheet,
     };
-    let sale = play(rt.alloc(), books, sheet, &mut panels, prices)?;
+    let second = Priced {
+        prices: &OTHERS,
+        sheet: &mut second_sheet,
+    };
+    let sale = play(rt.alloc(), first, second, sheet, &mut panels, prices)?;
     let other = sheet_of(&second_sheet, sale.second.as_slice());
     tell_book(rt, "A second book", &OTHERS, other)?;
     compare(rt, sheet, other)?;
@@ -235,13 +236,15 @@ fn sale_on_digits(rt: &HostRuntime, sheet: &[u8], prices: &[u32]) -> anyhow::Res
         DigitPanel::new(),
         DigitPanel::new(),
     ];
-    let books = Books {
-        first: &DIFFERENT,
-        second: prices,
-        first_sheet: &mut first_sheet,
-        second_sheet: &mut second_sheet,
+    let first = Priced {
+        prices: &DIFFERENT,
+        sheet: &mut first_sheet,
     };
-    let sale = play(rt.alloc(), books, sheet, &mut panels, &mut again)?;
+    let second = Priced {
+        prices: prices,
+        sheet: &mut second_sheet,
+    };
+    let sale = play(rt.alloc(), first, second, sheet, &mut panels, &mut again)?;
     let different = sheet_of(&first_sheet, sale.first.as_slice());
     let rebuilt = sheet_of(&second_sheet, sale.second.as_slice());
     tell_book(
@@ -269,13 +272,15 @@ fn damaged_tape(rt: &HostRuntime) -> anyhow::Result<()> {
         LinePanel::new(),
         LinePanel::new(),
     ];
-    let books = Books {
-        first: &[],
-        second: &[],
-        first_sheet: &mut first_sheet,
-        second_sheet: &mut second_sheet,
+    let first = Priced {
+        prices: &[],
+        sheet: &mut first_sheet,
     };
-    let sale = play(rt.alloc(), books, DAMAGED, &mut panels, &mut prices)?;
+    let second = Priced {
+        prices: &[],
+        sheet: &mut second_sheet,
+    };
+    let sale = play(rt.alloc(), first, second, DAMAGED, &mut panels, &mut prices)?;
     print!(rt; "Another board stands over a damaged tape, ")?;
     rt.stdout().write_all(DAMAGED)?;
     println!(rt; ".")?;
