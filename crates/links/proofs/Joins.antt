@@ -5,7 +5,7 @@ use Rattle.leaders.specs.Order.{Strict}
 use Rattle.leaders.specs.Sheet.{parent, tally}
 use Rattle.leaders.proofs.Trees.{asym}
 use Rattle.leaders.proofs.Sheets.{Highest, highest_is}
-use Rattle.links.specs.Links.{Top, last_child, children_to, Linked}
+use Rattle.links.specs.Links.{Climbed, Top, last_child, children_to, Linked}
 
 pub parent_is : (b : ℕ → ℕ → Bool) (k : ℕ) → Highest b k (k - 1) (parent b k)
 unfolding parent
@@ -18,13 +18,7 @@ highest_one b i j p q g h = elim (cases_order p q) [
   | inr (inr e) ↦ elim g.beats [ inl z ↦ absurd (omega arith) | inr z ↦ absurd (both_ways (b p i) (h.none p e g.upto) z) ]
 ]
 
--- from lot k - 1 up to x: k beats all between, and the best of them hangs on x
-pub record Climbed (b : ℕ → ℕ → Bool) (k x last : ℕ) : Type 0 where
-  pub below : x < k
-  pub beaten : (m : ℕ) → x < m → m < k → b m k ≡ false
-  pub top : Top b (suc x) (k - 1) last
-  pub hangs : 1 ≤ last → parent b last ≡ x
-
+-- the way up to lot k begins at the lot before it
 pub climb_start : (b : ℕ → ℕ → Bool) (k : ℕ) → 1 ≤ k → Climbed b k (k - 1) 0
 climb_start b k p = record { below = omega arith; beaten = λ m u v. absurd (omega arith); top = inl (omega arith, refl); hangs = λ q. absurd (omega arith) }
 

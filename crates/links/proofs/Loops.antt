@@ -1,7 +1,9 @@
 -- Steps of loops over lots: walks along rising numbers, and lists that lots give, joined.
 use Rattle.std.proofs.Common.{◌≡◌, ℕ, zero, suc, ◌+◌, ◌-◌, ◌<◌, ◌≤◌, Bool, ◌≢◌, ◌⊎◌, List, [], ◌∷◌, ◌++◌, length, get_or, refl, inl, inr, arith}
+use Rattle.std.proofs.Math.Logic.{∥∥₁_elim}
+use Rattle.std.proofs.Math.Bridge.{le_prop}
 use Rattle.leaders.specs.Sheet.{spread}
-use Rattle.links.specs.Walks.{Chain}
+use Rattle.links.specs.Walks.{Chain, Rises}
 
 -- how far a rising walk can go on from x
 abbrev pub ahead : ℕ → ℕ → ℕ
@@ -12,10 +14,13 @@ pub ahead_most : (n x : ℕ) → ahead n x ≤ n
 ahead_most n zero = omega arith
 ahead_most n (suc x) = omega arith
 
-pub walk_less : (n x y : ℕ) → x ≢ 0 → x ≤ n → (y ≡ 0) ⊎ (x < y) → ahead n y < ahead n x
-walk_less n zero y d p h = absurd (d refl)
-walk_less n (suc x) zero d p h = omega arith
-walk_less n (suc x) (suc y) d p h = elim h [ inl e ↦ absurd (omega arith) | inr e ↦ omega arith ]
+less : (n x y : ℕ) → x ≢ 0 → x ≤ n → (y ≡ 0) ⊎ (x < y) → ahead n y < ahead n x
+less n zero y d p h = absurd (d refl)
+less n (suc x) zero d p h = omega arith
+less n (suc x) (suc y) d p h = elim h [ inl e ↦ absurd (omega arith) | inr e ↦ omega arith ]
+
+pub walk_less : (n : ℕ) (next : List ℕ) (x : ℕ) → x ≢ 0 → x ≤ n → ∥ Rises n next ∥₁ → ahead n (get_or next x 0) < ahead n x
+walk_less n next x d p h = ∥∥₁_elim h le_prop (λ r. less n x (get_or next x 0) d p (r x p))
 
 pub walk_more : (next : List ℕ) (x s m : ℕ) → x ≢ 0 → ((ys : List ℕ) × Chain next x ys × (s + length ys ≡ m)) → (ys : List ℕ) × Chain next (get_or next x 0) ys × (s + 1 + length ys ≡ m)
 walk_more next x s m d ([], e, h) = absurd (d e)

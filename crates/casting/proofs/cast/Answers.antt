@@ -1,7 +1,6 @@
-use Rattle.std.proofs.Common.{suc, ◌+◌, ◌-◌, ◌*◌, refl, ap, ◌∙◌, arith, length-take}
+use Rattle.std.proofs.Common.{suc, ◌+◌, ◌-◌, ◌*◌, refl, ◌∙◌, arith, length-take}
 use Rattle.std.proofs.lemmas.Slice.{drop-append-drop}
 use Rattle.leaders.specs.Sheet.{sheet}
-use Rattle.casting.specs.Casts.{punch_of_sheet}
 use Rattle.casting.proofs.Ends.{cast_few, cast_enough}
 use Rattle.casting.proofs.cast.Goals as goal
 
@@ -19,13 +18,11 @@ returns-then-work-n g c =
 
 pub returns : goal.returns
 returns g c =
-    let P = g.P.Punch in
     let b = g.L.Lots.order c.args.lots.now in
     let n = g.L.Lots.count c.args.lots.now in
     let e = c.len-n.ensures.count in
     record {
       bits = c.cast_in.ensures.bits
-          ∙ ap (λ m. punch_of_sheet (sheet b m) (P.room c.args.punch.now) (P.written c.args.punch.now)) e
           ∙ cast_enough (sheet b n) _ n _ _ (omega arith);
       room = c.cast_in.ensures.room;
       home = c.cast_in.ensures.home;

@@ -1,43 +1,54 @@
-use Rattle.std.proofs.Common.{◌++◌, length, ap, ◌∙◌, arith, length-append}
-use Rattle.leaders.specs.Sheet.{sheet}
+use Rattle.std.proofs.Common.{◌+◌, ◌≤◌, ◌++◌, true, length, sym, ap, ◌∙◌, arith}
+use Rattle.leaders.specs.Sheet.{spines, sheet}
 use Rattle.links.specs.Walks.{node_brackets}
-use Rattle.leaders.specs.Sheet.{spines}
-use Rattle.casting.proofs.Puts.{puts, part_fits}
-use Rattle.casting.proofs.Ends.{started}
+use Rattle.links.proofs.Walking.{sheet_parts, walked_words}
+use Rattle.casting.proofs.Puts.{Going, begun, bit_more, part_more, part_room, rest_room}
 use Rattle.casting.proofs.writing.punch_sheet.Goals as goal
+use Rattle.casting.proofs.writing.punch_sheet.Goals.{After-append, After-punch_brackets}
+
+-- the first bit stands, and the brackets and the words are to come
+begins : (g : _) (c : After-append g) → let P = g.P.Punch in let b = g.L.Lots.order c.args.lots.now in let n = c.args.words.sides.n in
+    (length (P.written c.clear.new.self) + length (sheet b n) ≤ P.room c.clear.new.self) × Going P.written P.room P.home c.clear.new.self c.append.new.self (node_brackets b n ++ spines b n) (sheet b n)
+begins g c =
+    let P = g.P.Punch in
+    let b = g.L.Lots.order c.args.lots.now in
+    let n = c.args.words.sides.n in
+    let a = c.append.ensures in
+    let fits : length (P.written c.clear.new.self) + length (sheet b n) ≤ P.room c.clear.new.self = omega (arith, ap length c.clear.ensures.empty, c.requires.room, c.clear.ensures.room) in
+    (fits, bit_more P.written P.room P.home c.append.new.self c.append.result true (node_brackets b n ++ spines b n) fits (begun P.written P.room P.home _ _ _ (sym (sheet_parts b n))) a.bits a.room a.home)
+
+-- the brackets stand, and the words are to come
+goes_on : (g : _) (c : After-punch_brackets g) → let P = g.P.Punch in let b = g.L.Lots.order c.args.lots.now in let n = c.args.words.sides.n in
+    Going P.written P.room P.home c.clear.new.self c.append.new.self (node_brackets b n ++ spines b n) (sheet b n) → Going P.written P.room P.home c.clear.new.self c.punch_brackets.new.punch (spines b n) (sheet b n)
+goes_on g c z =
+    let P = g.P.Punch in
+    let b = g.L.Lots.order c.args.lots.now in
+    let n = c.args.words.sides.n in
+    part_more P.written P.room P.home c.punch_brackets.new.punch (node_brackets b n) (spines b n) z (rw c.requires.ready.counted at c.punch_brackets.ensures)
 
 pub punch_brackets-requires : goal.punch_brackets-requires
 punch_brackets-requires g c =
     let P = g.P.Punch in
     let b = g.L.Lots.order c.args.lots.now in
-    let n = c.args.n in
-    let first = started b n c.append.result (P.room c.clear.new.self) (P.written c.clear.new.self) (P.written c.append.new.self) c.append.ensures.bits c.clear.ensures.empty (omega (arith, c.requires.room, c.clear.ensures.room)) in
-    omega (arith, part_fits (P.written c.append.new.self) (node_brackets b n) (spines b n) (sheet b n) (P.room c.append.new.self) first (omega (arith, c.requires.room, c.clear.ensures.room, c.append.ensures.room)), ap length c.requires.ready.counted)
+    let n = c.args.words.sides.n in
+    let z = begins g (goal.at.punch_brackets-requires g c).After-append in
+    omega (arith, part_room P.written P.room P.home (node_brackets b n) (spines b n) z.0 z.1, ap length c.requires.ready.counted)
 
-pub punch_words-requires : goal.punch_words-requires
-punch_words-requires g c =
+pub punch_words-requires-clause-room : goal.punch_words-requires-clause-room
+punch_words-requires-clause-room g c =
+    let P = g.P.Punch in
+    let w = c.args.words in
+    let at = goal.at.punch_words-requires-clause-room g c in
+    let e = walked_words (g.L.Lots.order c.args.lots.now) w.sides.n w.sides.left.now w.sides.right.now w.kids.now c.args.sizes.now c.requires.ready c.requires.sized in
+    let z = begins g at.After-append in
+    omega (arith, ap length e, rest_room P.written P.room P.home z.0 (goes_on g at.After-punch_brackets z.1))
+
+pub returns-clause-bits : goal.returns-clause-bits
+returns-clause-bits g c =
     let P = g.P.Punch in
     let b = g.L.Lots.order c.args.lots.now in
-    let n = c.args.n in
-    let first = started b n c.append.result (P.room c.clear.new.self) (P.written c.clear.new.self) (P.written c.append.new.self) c.append.ensures.bits c.clear.ensures.empty (omega (arith, c.requires.room, c.clear.ensures.room)) in
-    let then = puts (P.written c.append.new.self) (P.written c.punch_brackets.new.punch) (node_brackets b n) (spines b n) (sheet b n) (c.punch_brackets.ensures.bits ∙ ap (λ w. P.written c.append.new.self ++ w) c.requires.ready.counted) first in
-    record {
-      count = c.requires.count;
-      lengths = c.requires.lengths;
-      ready = c.requires.ready;
-      sized = c.requires.sized;
-      room = omega (arith, ap length then, length-append (P.written c.punch_brackets.new.punch) (spines b n), c.requires.room, c.clear.ensures.room, c.append.ensures.room, c.punch_brackets.ensures.room);
-    }
-
-pub returns : goal.returns
-returns g c =
-    let P = g.P.Punch in
-    let b = g.L.Lots.order c.args.lots.now in
-    let n = c.args.n in
-    let first = started b n c.append.result (P.room c.clear.new.self) (P.written c.clear.new.self) (P.written c.append.new.self) c.append.ensures.bits c.clear.ensures.empty (omega (arith, c.requires.room, c.clear.ensures.room)) in
-    let then = puts (P.written c.append.new.self) (P.written c.punch_brackets.new.punch) (node_brackets b n) (spines b n) (sheet b n) (c.punch_brackets.ensures.bits ∙ ap (λ w. P.written c.append.new.self ++ w) c.requires.ready.counted) first in
-    record {
-      bits = c.punch_words.ensures.bits ∙ then;
-      room = c.punch_words.ensures.room ∙ c.punch_brackets.ensures.room ∙ c.append.ensures.room ∙ c.clear.ensures.room;
-      home = c.punch_words.ensures.home ∙ c.punch_brackets.ensures.home ∙ c.append.ensures.home ∙ c.clear.ensures.home;
-    }
+    let w = c.args.words in
+    let e = walked_words b w.sides.n w.sides.left.now w.sides.right.now w.kids.now c.args.sizes.now c.requires.ready c.requires.sized in
+    let at = goal.at.returns-clause-bits g c in
+    let z = goes_on g at.After-punch_brackets (begins g at.After-append).1 in
+    c.punch_words.ensures.bits-are ∙ ap (λ v. P.written c.punch_brackets.new.punch ++ v) e ∙ z.bits-are ∙ ap (λ v. v ++ sheet b w.sides.n) c.clear.ensures.empty
