@@ -10,7 +10,9 @@ ghost use Rattle.std.specs.Prelude.{◌≡◌, ℕ, suc, ◌+◌, ◌-◌, ◌*�
 ghost use Rattle.leaders.specs.Order.{Strict};
 ghost use Rattle.leaders.specs.Sheet.{parent};
 ghost use Rattle.links.specs.Links.{Top, Tells};
-ghost use Rattle.links.specs.Walks.{Hangs};
+ghost use Rattle.links.specs.Walks.{Hangs, AtMost, Rises};
+
+use sides::{Sides, Words};
 
 /// Where a lot hangs: on its parent, which may be node 0, the root; and the best of the lots between the two, or 0 for none, as it is stored.
 #[derive(Clone, Copy)]
@@ -101,6 +103,27 @@ impl<'a> Links<'a> {
         Place {
             parent: x,
             best: last,
+        }
+    }
+
+    /// The words of the lots, where all numbers are among the lots.
+    pub fn words(&self) -> Words<'_>
+        requires lefts { AtMost self.now.n self.now.left.now }
+        requires rights { AtMost self.now.n self.now.right.now }
+        requires rises { Rises self.now.n self.now.right.now }
+        requires kids { AtMost self.now.n self.now.kids.now }
+        ensures lots { result.sides.n ≡ self.now.n }
+        ensures left { result.sides.left.now ≡ self.now.left.now }
+        ensures right { result.sides.right.now ≡ self.now.right.now }
+        ensures kids { result.kids.now ≡ self.now.kids.now }
+    {
+        Words {
+            sides: Sides {
+                n: self.n,
+                left: self.left,
+                right: self.right,
+            },
+            kids: self.kids,
         }
     }
 }

@@ -1,6 +1,6 @@
 use Rattle.std.proofs.Common.{◌≡◌, ℕ, ◌-◌, ◌≤◌, Bool, List, ◌++◌, drop}
 use Rattle.leaders.specs.Sheet.{unary}
-use Rattle.linking.proofs.run_from.Given as goal
+use Rattle.linking.proofs.Run.read.Given as goal
 
 abbrev pub invariant-loop-p : goal.invariant-loop-p
 invariant-loop-p g l =

@@ -1,7 +1,7 @@
 use Rattle.std.proofs.Common.{◌≡◌, ◌-◌, arith}
 use Rattle.bits.proofs.Bitlists.{set_at}
 use Rattle.linking.proofs.Counts.{run_one, run_zero, run_none}
-use Rattle.linking.proofs.run_from.Goals as goal
+use Rattle.linking.proofs.Run.read.Goals as goal
 
 pub returns-then-not-unwrap_or : goal.returns-then-not-unwrap_or
 returns-then-not-unwrap_or g c =
