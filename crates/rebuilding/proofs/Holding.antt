@@ -1,6 +1,6 @@
 -- The working numbers of linked lots and the bits of the sheet hold the tree of the order; so the prices along its merge order are the rebuilt ones.
-use Rattle.std.proofs.Common.{◌≡◌, ℕ, zero, suc, ◌+◌, ◌-◌, ◌*◌, ◌≤◌, min, Bool, true, ltb, List, [], ◌++◌, length, get_or, take, drop, set, sym, refl, ap, ◌∙◌, subst, inl, inr, append_assoc, arith, length-append, get_or-set_other, get_or-set_same}
-use Rattle.std.proofs.lemmas.Bool.{cond_both, cases_eq, both_ways, le-leb, ltb-true, ltb-false}
+use Rattle.std.proofs.Common.{◌≡◌, ℕ, zero, suc, ◌+◌, ◌-◌, ◌*◌, ◌≤◌, min, Bool, true, ltb, List, [], ◌++◌, length, get_or, take, drop, set, sym, refl, ap, ◌∙◌, subst, inl, inr, append_assoc, arith, length-append, get_or-set_other}
+use Rattle.std.proofs.lemmas.Bool.{cond_both, both_ways, le-leb, ltb-true, ltb-false}
 use Rattle.std.proofs.lemmas.List.{take_at, drop_at, append-nil}
 use Rattle.leaders.specs.Order.{Strict}
 use Rattle.leaders.specs.Sheet.{spread, brackets, drop_last, spine_of, spines, sheet}
@@ -12,10 +12,10 @@ use Rattle.leaders.proofs.Listing.{list_here}
 use Rattle.leaders.proofs.Merging.{merge_is, list_length}
 use Rattle.leaders.proofs.Counting.{sheet_lengths}
 use Rattle.links.specs.Links.{Linked, last_child}
-use Rattle.links.specs.Walks.{top, Chain, AtMost}
+use Rattle.links.specs.Walks.{top, Chain}
 use Rattle.links.proofs.Joins.{parent_is}
 use Rattle.links.proofs.Walking.{Last, last_is, last_one, parent_root, left_is, right_is}
-use Rattle.linking.specs.Linking.{Starts, Tame}
+use Rattle.linking.specs.Linking.{Starts}
 use Rattle.rebuilding.specs.Held.{end_of_word, word_at, Holds}
 use Rattle.rebuilding.specs.Rebuilding.{enough}
 use Rattle.rebuilding.specs.Prices.{Lists, Prices}
@@ -116,13 +116,6 @@ module _ (b : ℕ → ℕ → Bool) (s : Strict b) (n : ℕ) (bits : List Bool) 
 -- what hangs on node 0 is not read
 pub linked_first : (b : ℕ → ℕ → Bool) (n v : ℕ) (up left right kids : List ℕ) → Linked b n n up left right kids → Linked b n n (set up 0 v) left right kids
 linked_first b n v up left right kids h = record { parents = λ k p q. get_or-set_other up 0 k v 0 (omega arith) ∙ h.parents k p q; first = h.first; lefts = h.lefts; rights = h.rights; counts = h.counts }
-
--- the numbers after the links: node 0 hangs on none
-pub hangs_most : (n : ℕ) (up left right : List ℕ) → length up ≡ suc n → Tame n up left right → AtMost n (set up 0 0)
-hangs_most n up left right long h k p = elim (cases_eq k 0) [
-  | inl z ↦ rw z (omega (arith, get_or-set_same up 0 0 0 (omega arith)))
-  | inr z ↦ omega (arith, get_or-set_other up 0 k 0 0 z, h.hangs k (omega arith) p)
-]
 
 -- a sheet of n lots has at least 2n + 2 bits
 pub sheet_least : (b : ℕ → ℕ → Bool) → Strict b → (n : ℕ) → 2 * n + 2 ≤ length (sheet b n)
