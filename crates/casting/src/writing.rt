@@ -62,56 +62,65 @@ fn turns<L: Lots>(lots: &L, at: Walks) -> bool
     at.lower == 0 || (at.upper != 0 && !lots.beats(at.lower as usize, at.upper as usize))
 }
 
-/// Punches the first `size` symbols of two merged walks.
-fn punch_word<L: Lots, P: Punch>(lots: &L, punch: &mut P, sides: Sides, from: Walks, size: u32)
-    requires lots { sides.n ≡ L.Lots.count lots.now }
-    requires from { (from.lower ≤ sides.n) × (from.upper ≤ sides.n) }
-    requires room { length (P.Punch.written punch.old) + size ≤ P.Punch.room punch.old }
-    ensures { Adds P.Punch.written P.Punch.room P.Punch.home punch.old punch.new (merge (L.Lots.order lots.now) sides.entry.left.now sides.entry.right.now size from.lower from.upper) }
-{
-    let mut at = from;
-    for _ in 0..size {
-        let bit = turns(lots, at);
-        let _ = punch.append(bit);
-        if bit {
-            at.upper = sides.left[at.upper as usize];
-        } else {
-            at.lower = sides.right[at.lower as usize];
+/// What a sheet is punched from: the lots, their words, and how many symbols each word has.
+#[derive(Drop)]
+struct Sheet<'a, L: Lots> {
+    lots: &'a L,
+    words: Words<'a>,
+    sizes: &'a [u32],
+    ghost count: { words.sides.n ≡ L.Lots.count lots.now },
+    ghost sizes_long: { length sizes.now ≡ suc words.sides.n },
+}
+
+impl<L: Lots> Sheet<'_, L> {
+    /// Punches the first `size` symbols of two merged walks.
+    fn punch_word<P: Punch>(&self, punch: &mut P, from: Walks, size: u32)
+        requires from { (from.lower ≤ self.now.words.sides.n) × (from.upper ≤ self.now.words.sides.n) }
+        requires room { length (P.Punch.written punch.old) + size ≤ P.Punch.room punch.old }
+        ensures { Adds P.Punch.written P.Punch.room P.Punch.home punch.old punch.new (merge (L.Lots.order self.now.lots.now) self.now.words.sides.left.now self.now.words.sides.right.now size from.lower from.upper) }
+    {
+        let sides = self.words.sides;
+        let mut at = from;
+        for _ in 0..size {
+            let bit = turns(self.lots, at);
+            let _ = punch.append(bit);
+            if bit {
+                at.upper = sides.left[at.upper as usize];
+            } else {
+                at.lower = sides.right[at.lower as usize];
+            }
         }
     }
-}
 
-/// Punches the symbols of all lots' walks, for each lot as many as its size says.
-fn punch_words<L: Lots, P: Punch>(lots: &L, punch: &mut P, sides: Sides, sizes: &[u32])
-    requires lots { sides.n ≡ L.Lots.count lots.now }
-    requires sizes { length sizes.now ≡ suc sides.n }
-    requires room { length (P.Punch.written punch.old) + length (spread (walked (L.Lots.order lots.now) sides.left.now sides.right.now sizes.now) 1 sides.n) ≤ P.Punch.room punch.old }
-    ensures { Adds P.Punch.written P.Punch.room P.Punch.home punch.old punch.new (spread (walked (L.Lots.order lots.now) sides.entry.left.now sides.entry.right.now sizes.now) 1 sides.entry.n) }
-{
-    for k in 1..sides.n + 1 {
-        let from = Walks {
-            lower: sides.left[k],
-            upper: sides.right[k],
-        };
-        punch_word(lots, punch, sides, from, sizes[k]);
+    /// Punches the symbols of all lots' walks, for each lot as many as its size says.
+    fn punch_words<P: Punch>(&self, punch: &mut P)
+        requires { length (P.Punch.written punch.old) + length (spread (walked (L.Lots.order self.now.lots.now) self.now.words.sides.left.now self.now.words.sides.right.now self.now.sizes.now) 1 self.now.words.sides.n) ≤ P.Punch.room punch.old }
+        ensures { Adds P.Punch.written P.Punch.room P.Punch.home punch.old punch.new (spread (walked (L.Lots.order self.now.lots.now) self.now.words.sides.left.now self.now.words.sides.right.now self.now.sizes.now) 1 self.now.words.sides.n) }
+    {
+        let sides = self.words.sides;
+        for k in 1..sides.n + 1 {
+            let from = Walks {
+                lower: sides.left[k],
+                upper: sides.right[k],
+            };
+            self.punch_word(punch, from, self.sizes[k]);
+        }
     }
-}
 
-/// Punches the sheet of linked lots, for which there is room.
-fn punch_sheet<L: Lots, P: Punch>(lots: &L, punch: &mut P, words: Words, sizes: &[u32])
-    requires lots { words.sides.n ≡ L.Lots.count lots.now }
-    requires sizes { length sizes.now ≡ suc words.sides.n }
-    requires ready { WordsReady (L.Lots.order lots.now) words }
-    requires sized { Sized (L.Lots.order lots.now) words.sides.n words.sides.n sizes.now }
-    requires room { length (sheet (L.Lots.order lots.now) words.sides.n) ≤ P.Punch.room punch.old }
-    ensures bits { P.Punch.written punch.new ≡ sheet (L.Lots.order lots.now) words.entry.sides.n }
-    ensures room { P.Punch.room punch.new ≡ P.Punch.room punch.old }
-    ensures home { P.Punch.home punch.new ≡ P.Punch.home punch.old }
-{
-    punch.clear();
-    let _ = punch.append(true);
-    punch_brackets(punch, words.kids);
-    punch_words(lots, punch, words.sides, sizes);
+    /// Punches all, where there is room and the sizes are those of the words.
+    fn punch_all<P: Punch>(&self, punch: &mut P)
+        requires ready { WordsReady (L.Lots.order self.now.lots.now) self.now.words }
+        requires sized { Sized (L.Lots.order self.now.lots.now) self.now.words.sides.n self.now.words.sides.n self.now.sizes.now }
+        requires room { length (sheet (L.Lots.order self.now.lots.now) self.now.words.sides.n) ≤ P.Punch.room punch.old }
+        ensures bits { P.Punch.written punch.new ≡ sheet (L.Lots.order self.now.lots.now) self.now.words.sides.n }
+        ensures room { P.Punch.room punch.new ≡ P.Punch.room punch.old }
+        ensures home { P.Punch.home punch.new ≡ P.Punch.home punch.old }
+    {
+        punch.clear();
+        let _ = punch.append(true);
+        punch_brackets(punch, self.words.kids);
+        self.punch_words(punch);
+    }
 }
 
 /// Punches the sheet of linked lots, if there is room for it; `sizes` has the sizes of the words meanwhile.
@@ -132,6 +141,6 @@ pub(crate) fn punch_linked<L: Lots, P: Punch>(
     if punch.capacity() < length {
         return Err(CastFault::TooLong(length as u32));
     }
-    punch_sheet(lots, punch, words, sizes);
+    Sheet { lots, words, sizes }.punch_all(punch);
     Ok(length as u32)
 }

@@ -1,5 +1,6 @@
 -- Steps of loops over lots: walks along rising numbers, and lists that lots give, joined.
-use Rattle.std.proofs.Common.{◌≡◌, ℕ, zero, suc, ◌+◌, ◌-◌, ◌<◌, ◌≤◌, Bool, ◌≢◌, ◌⊎◌, List, [], ◌∷◌, ◌++◌, length, get_or, refl, inl, inr, arith}
+use Rattle.std.proofs.Common.{◌≡◌, ℕ, zero, suc, ◌+◌, ◌-◌, ◌<◌, ◌≤◌, Bool, ◌≢◌, ◌⊎◌, List, [], ◌∷◌, ◌++◌, length, get_or, refl, sym, ap, ◌∙◌, inl, inr, append_assoc, arith}
+use Rattle.std.proofs.lemmas.List.{append-nil}
 use Rattle.std.proofs.Math.Logic.{∥∥₁_elim}
 use Rattle.std.proofs.Math.Bridge.{le_prop}
 use Rattle.leaders.specs.Sheet.{spread}
@@ -40,3 +41,20 @@ spread_step f n t h =
 pub spread_end : (f : ℕ → List Bool) (n t : ℕ) → n ≤ t → spread f t (n - t) ≡ []
 unfolding spread
 spread_end f n t h = let e : n - t ≡ 0 = omega arith in rw e
+
+-- a list that lots give, in two parts
+pub spread_parts : (f : ℕ → List Bool) (i m r : ℕ) → spread f i (m + r) ≡ spread f i m ++ spread f (i + m) r
+unfolding spread
+spread_parts f i zero r = let e : 0 + r ≡ r = omega arith in let d : i + 0 ≡ i = omega arith in rw (e, d)
+spread_parts f i (suc m) r =
+    let e : suc m + r ≡ suc (m + r) = omega arith in
+    let d : suc i + m ≡ i + suc m = omega arith in
+    rw e (ap (λ w. f i ++ w) (spread_parts f (suc i) m r ∙ ap (λ j. spread f (suc i) m ++ spread f j r) d) ∙ sym (append_assoc (f i) (spread f (suc i) m) (spread f (i + suc m) r)))
+
+-- with one lot more
+pub spread_last : (f : ℕ → List Bool) (m : ℕ) → spread f 1 (suc m) ≡ spread f 1 m ++ f (suc m)
+unfolding spread
+spread_last f m =
+    let e : suc m ≡ m + 1 = omega arith in
+    let d : 1 + m ≡ suc m = omega arith in
+    ap (spread f 1) e ∙ spread_parts f 1 m 1 ∙ ap (λ j. spread f 1 m ++ (f j ++ [])) d ∙ ap (λ w. spread f 1 m ++ w) (append-nil (f (suc m)))

@@ -1,7 +1,7 @@
 use Rattle.std.proofs.Common.{◌≡◌, ◌-◌, true, false, ◌⊎◌, get_or, ap, inl, inr, arith}
 use Rattle.casting.proofs.Puts.{begun, all_added, word_more, merge_length, merge_end}
-use Rattle.casting.proofs.writing.punch_word.Goals as goal
-use Rattle.casting.proofs.writing.punch_word.Goals.{then-bit, else-bit}
+use Rattle.casting.proofs.writing.Sheet.punch_word.Goals as goal
+use Rattle.casting.proofs.writing.Sheet.punch_word.Goals.{then-bit, else-bit}
 
 pub loop-init : goal.loop-init
 loop-init g c =
@@ -12,8 +12,8 @@ loop-init g c =
 pub loop-preserved : goal.loop-preserved
 loop-preserved g c =
     let P = g.P.Punch in
-    let b = g.L.Lots.order c.args.lots.now in
-    let s = c.args.sides in
+    let b = g.L.Lots.order c.args.self.now.lots.now in
+    let s = c.args.self.now.words.sides in
     let at = c.loop.at in
     let now = c.if-bit.at in
     let a = c.append.ensures in
@@ -28,5 +28,5 @@ loop-preserved g c =
 pub returns : goal.returns
 returns g c =
     let P = g.P.Punch in
-    let e = merge_end (g.L.Lots.order c.args.lots.now) c.args.sides.left.now c.args.sides.right.now c.args.size c.loop.counter c.loop.at.lower c.loop.at.upper c.loop-test.false in
+    let e = merge_end (g.L.Lots.order c.args.self.now.lots.now) c.args.self.now.words.sides.left.now c.args.self.now.words.sides.right.now c.args.size c.loop.counter c.loop.at.lower c.loop.at.upper c.loop-test.false in
     all_added P.written P.room P.home (rw e at c.loop.invariant.2)
