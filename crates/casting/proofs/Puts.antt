@@ -49,37 +49,37 @@ puts before after part rest all e f = rw e (append_assoc before part rest ∙ f)
 
 -- from the punch p to q some of the bits `all` were added, and `rest` is to come
 pub record Going {X : Type 0} (written : X → List Bool) (room home : X → ℕ) (p q : X) (rest all : List Bool) : Type 0 where
-  pub bits-are : written q ++ rest ≡ written p ++ all
-  pub room-is : room q ≡ room p
-  pub home-is : home q ≡ home p
+  pub bits_are : written q ++ rest ≡ written p ++ all
+  pub room_is : room q ≡ room p
+  pub home_is : home q ≡ home p
 
 module _ {X : Type 0} (written : X → List Bool) (room home : X → ℕ) where
   pub begun : (p : X) (rest all : List Bool) → rest ≡ all → Going written room home p p rest all
-  begun p rest all e = record { bits-are = ap (λ w. written p ++ w) e; room-is = refl; home-is = refl }
+  begun p rest all e = record { bits_are = ap (λ w. written p ++ w) e; room_is = refl; home_is = refl }
 
   pub bit_more : {E : Type 0} {p q : X} {all : List Bool} (q' : X) (r : Result (Unit {0}) E) (bit : Bool) (rest : List Bool) → length (written p) + length all ≤ room p → Going written room home p q (bit ∷ rest) all →
       Appends r (room q) (written q) (written q') bit → room q' ≡ room q → home q' ≡ home q → Going written room home p q' rest all
   bit_more {p = p} {q = q} {all = all} q' r bit rest h g a i j = record {
-    bits-are = put r (room q) (written q) (written q') bit rest (written p ++ all) a g.bits-are (omega (arith, h, g.room-is, length-append (written p) all));
-    room-is = i ∙ g.room-is;
-    home-is = j ∙ g.home-is;
+    bits_are = put r (room q) (written q) (written q') bit rest (written p ++ all) a g.bits_are (omega (arith, h, g.room_is, length-append (written p) all));
+    room_is = i ∙ g.room_is;
+    home_is = j ∙ g.home_is;
   }
 
   pub part_more : {p q : X} {all : List Bool} (q' : X) (part rest : List Bool) → Going written room home p q (part ++ rest) all → Adds written room home q q' part → Going written room home p q' rest all
   part_more {p = p} {q = q} {all = all} q' part rest g a = record {
-    bits-are = puts (written q) (written q') part rest (written p ++ all) a.bits-are g.bits-are;
-    room-is = a.room-is ∙ g.room-is;
-    home-is = a.home-is ∙ g.home-is;
+    bits_are = puts (written q) (written q') part rest (written p ++ all) a.bits_are g.bits_are;
+    room_is = a.room_is ∙ g.room_is;
+    home_is = a.home_is ∙ g.home_is;
   }
 
   pub rest_room : {p q : X} {rest all : List Bool} → length (written p) + length all ≤ room p → Going written room home p q rest all → length (written q) + length rest ≤ room q
-  rest_room {p = p} {q = q} {rest = rest} {all = all} h g = omega (arith, h, g.room-is, ap length g.bits-are, length-append (written p) all, length-append (written q) rest)
+  rest_room {p = p} {q = q} {rest = rest} {all = all} h g = omega (arith, h, g.room_is, ap length g.bits_are, length-append (written p) all, length-append (written q) rest)
 
   pub part_room : {p q : X} {all : List Bool} (part rest : List Bool) → length (written p) + length all ≤ room p → Going written room home p q (part ++ rest) all → length (written q) + length part ≤ room q
   part_room part rest h g = omega (arith, rest_room h g, length-append part rest)
 
   pub all_added : {p q : X} {all : List Bool} → Going written room home p q [] all → Adds written room home p q all
-  all_added {q = q} g = record { bits-are = sym (append-nil (written q)) ∙ g.bits-are; room-is = g.room-is; home-is = g.home-is }
+  all_added {q = q} g = record { bits_are = sym (append-nil (written q)) ∙ g.bits_are; room_is = g.room_is; home_is = g.home_is }
 
   -- the parts that f gives for the numbers k up to n, one after another
   module _ (f : ℕ → List Bool) (n k : ℕ) where

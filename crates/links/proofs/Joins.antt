@@ -1,5 +1,5 @@
 -- How the pass over the lots links one more.
-use Rattle.std.proofs.Common.{◌≡◌, ℕ, zero, suc, ◌+◌, ◌-◌, ◌<◌, ◌≤◌, Bool, true, false, cond, eqb, ◌≢◌, ◌⊎◌, List, length, get_or, set, sym, refl, ◌∙◌, subst, inl, inr, arith, get_or-set_other, get_or-set_same}
+use Rattle.std.proofs.Common.{◌≡◌, ℕ, zero, suc, ◌+◌, ◌-◌, ◌<◌, ◌≤◌, Bool, true, false, cond, eqb, ◌≢◌, ◌⊎◌, List, length, get_or, set, sym, ◌∙◌, subst, inl, inr, arith, get_or-set_other, get_or-set_same}
 use Rattle.std.proofs.lemmas.Bool.{cond_both, cases_eq, cases_order, cases_Bool, cases_lt, eqb-true, eqb-false, both_ways}
 use Rattle.leaders.specs.Order.{Strict}
 use Rattle.leaders.specs.Sheet.{parent, tally}
@@ -17,10 +17,6 @@ highest_one b i j p q g h = elim (cases_order p q) [
   | inr (inl e) ↦ elim h.beats [ inl z ↦ absurd (omega arith) | inr z ↦ absurd (both_ways (b q i) (g.none q e h.upto) z) ]
   | inr (inr e) ↦ elim g.beats [ inl z ↦ absurd (omega arith) | inr z ↦ absurd (both_ways (b p i) (h.none p e g.upto) z) ]
 ]
-
--- the way up to lot k begins at the lot before it
-pub climb_start : (b : ℕ → ℕ → Bool) (k : ℕ) → 1 ≤ k → Climbed b k (k - 1) 0
-climb_start b k p = record { below = omega arith; beaten = λ m u v. absurd (omega arith); top = inl (omega arith, refl); hangs = λ q. absurd (omega arith) }
 
 module _ (b : ℕ → ℕ → Bool) (s : Strict b) where
   pub beaten_false : (x y : ℕ) → b x y ≡ true → b y x ≡ false

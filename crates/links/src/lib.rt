@@ -1,6 +1,6 @@
 //! The tree of an order of lots, linked in working numbers: for each lot where it hangs, the best lot on its left and on its right, and how many children it has.
 //!
-//! What it has is for the crates that link lots and walk along the links; its types are public for them.
+//! What it has is for the crates that link lots and walk along the links: its types are public for them, which have what their methods require.
 //! The working numbers are lent by the caller, and nothing is allocated: so a lot is named by its number in them, and 0 stands for no lot.
 #![tactic(auto)]
 

@@ -1,6 +1,6 @@
 -- The working numbers of linked lots and the bits of the sheet hold the tree of the order; so the prices along its merge order are the rebuilt ones.
-use Rattle.std.proofs.Common.{◌≡◌, ℕ, zero, suc, ◌+◌, ◌-◌, ◌*◌, ◌≤◌, min, Bool, true, ltb, List, ◌++◌, length, get_or, take, drop, set, sym, refl, ap, ◌∙◌, subst, inl, inr, append_assoc, arith, length-append, get_or-set_other}
-use Rattle.std.proofs.lemmas.Bool.{cond_both, both_ways, le-leb, ltb-true, ltb-false}
+use Rattle.std.proofs.Common.{◌≡◌, ℕ, zero, suc, ◌+◌, ◌-◌, ◌*◌, ◌≤◌, min, Bool, ltb, List, ◌++◌, length, get_or, take, drop, set, sym, refl, ap, ◌∙◌, subst, inl, inr, append_assoc, arith, length-append, get_or-set_other}
+use Rattle.std.proofs.lemmas.Bool.{cond_both, both_ways, ltb-true, ltb-false}
 use Rattle.std.proofs.lemmas.List.{take_at, drop_at}
 use Rattle.leaders.specs.Order.{Strict}
 use Rattle.leaders.specs.Sheet.{spread, brackets, drop_last, spine_of, spines, sheet}
@@ -18,7 +18,6 @@ use Rattle.links.proofs.Loops.{spread_parts, spread_last}
 use Rattle.links.proofs.Walking.{Last, last_is, last_one, parent_root, left_is, right_is}
 use Rattle.linking.specs.Linking.{Starts}
 use Rattle.rebuilding.specs.Held.{end_of_word, word_at, Holds}
-use Rattle.rebuilding.specs.Rebuilding.{enough}
 use Rattle.rebuilding.specs.Prices.{Lists, Prices}
 use Rattle.rebuilding.proofs.Sides.{once}
 
@@ -107,6 +106,3 @@ linked_first b n v up left right kids h = record { parents = λ k p q. get_or-se
 pub sheet_least : (b : ℕ → ℕ → Bool) → Strict b → (n : ℕ) → 2 * n + 2 ≤ length (sheet b n)
 unfolding sheet
 sheet_least b s n = omega (arith, length-append (brackets b n) (spines b n), (sheet_lengths b s n).of_brackets)
-
-pub enough_is : (n prices work : ℕ) → n ≤ prices → 4 * suc n ≤ work → true ≡ enough n prices work
-enough_is n prices work p q = rw (le-leb n prices p, le-leb (4 * suc n) work q)

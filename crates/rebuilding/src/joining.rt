@@ -11,7 +11,7 @@ use bits::tape::Tape;
 use links::sides::Sides;
 
 /// Where the orders of the two sides of a lot are joined: the last lot that hangs, where what is left of each side begins, and the next lot of each side's spine. 0 stands for no lot, as in the lists.
-#[derive(Clone, Copy)]
+#[derive(Clone, Copy, Default)]
 pub(crate) struct Seam {
     pub tail: u32,
     pub lower: u32,
@@ -20,53 +20,53 @@ pub(crate) struct Seam {
     pub high: u32,
 }
 
-/// The orders of parts of the tree, which `next` links, beside the sides that they are joined of.
+/// The orders of parts of the tree, which `next` links, beside the sides that they are joined of; and the seam at which two are joined.
 #[derive(Drop)]
 pub(crate) struct Order<'a> {
     pub sides: Sides<'a>,
     pub next: &'a mut [u32],
+    pub seam: Seam,
     ghost next_long: { length next.now ≡ suc sides.n },
     ghost next_most: { AtMost sides.n next.now },
+    ghost seam_inside: { Inside sides.n seam },
 }
 
 impl Order<'_> {
     /// Hangs one side's lots up to the next lot of its spine: the right side's if `bit` is set, else the left side's.
-    fn hang(&mut self, s: Seam, bit: bool) -> Seam
-        requires { Inside self.old.sides.n s }
+    fn hang(&mut self, bit: bool)
         ensures sides { self.new.sides ≡ self.old.sides }
-        ensures seam { Inside self.old.sides.n result }
-        ensures hangs { Hangs self.old.next.now self.new.next.now self.old.sides.left.now self.old.sides.right.now bit s result }
+        ensures hangs { Hangs self.old.next.now self.new.next.now self.old.sides.left.now self.old.sides.right.now bit self.old.seam self.new.seam }
     {
+        let s = self.seam;
         if bit {
             self.next[s.tail as usize] = s.upper;
-            Seam {
+            self.seam = Seam {
                 tail: s.high,
                 upper: self.next[s.high as usize],
                 high: self.sides.left[s.high as usize],
                 ..s
-            }
+            };
         } else {
             self.next[s.tail as usize] = s.lower;
-            Seam {
+            self.seam = Seam {
                 tail: s.low,
                 lower: self.next[s.low as usize],
                 low: self.sides.right[s.low as usize],
                 ..s
-            }
+            };
         }
     }
 
     /// Hangs the lots of both sides of `x` by the bits from `from` up to `upto`.
-    fn splice<T: Tape>(&mut self, tape: &T, x: u32, from: usize, upto: usize) -> Seam
+    fn splice<T: Tape>(&mut self, tape: &T, x: u32, from: usize, upto: usize)
         requires lot { x ≤ self.old.sides.n }
         requires word { upto ≤ length (T.Tape.bits tape.now) }
         ensures sides { self.new.sides ≡ self.old.sides }
-        ensures seam { Inside self.old.sides.n result }
-        ensures spliced { Splices self.old.next.now self.new.next.now self.old.sides.left.now self.old.sides.right.now x (drop from (take upto (T.Tape.bits tape.now))) result }
+        ensures spliced { Splices self.old.next.now self.new.next.now self.old.sides.left.now self.old.sides.right.now x (drop from (take upto (T.Tape.bits tape.now))) self.new.seam }
     {
         let low = self.sides.left[x as usize];
         let high = self.sides.right[x as usize];
-        let mut s = Seam {
+        self.seam = Seam {
             tail: x,
             lower: low,
             upper: high,
@@ -75,35 +75,30 @@ impl Order<'_> {
         };
         for p in from..upto {
             let bit = tape.get(p).unwrap_or(false);
-            s = self.hang(s, bit);
+            self.hang(bit);
         }
-        s
     }
 
     /// Hangs the lots of the symbol that the tape leaves out: it is known by which spine has a lot left.
-    fn finish(&mut self, s: Seam) -> Seam
-        requires { Inside self.old.sides.n s }
+    fn finish(&mut self)
         ensures sides { self.new.sides ≡ self.old.sides }
-        ensures seam { Inside self.old.sides.n result }
-        ensures finishes { Finishes self.old.next.now self.new.next.now self.old.sides.left.now self.old.sides.right.now s result }
+        ensures finishes { Finishes self.old.next.now self.new.next.now self.old.sides.left.now self.old.sides.right.now self.old.seam self.new.seam }
     {
-        if s.low != 0 {
-            return self.hang(s, false);
+        if self.seam.low != 0 {
+            self.hang(false);
+        } else if self.seam.high != 0 {
+            self.hang(true);
         }
-        if s.high != 0 {
-            return self.hang(s, true);
-        }
-        s
     }
 
     /// Hangs what is left of both sides, whose last lots are given. Gives the last lot.
-    fn close(&mut self, s: Seam, end_left: u32, end_right: u32) -> u32
-        requires seam { Inside self.old.sides.n s }
-        requires ends { (end_left ≤ self.old.sides.n) × (end_right ≤ self.old.sides.n) }
+    fn close(&mut self, end_left: u32, end_right: u32) -> u32
+        requires { (end_left ≤ self.old.sides.n) × (end_right ≤ self.old.sides.n) }
         ensures sides { self.new.sides ≡ self.old.sides }
         ensures last { result ≤ self.old.sides.n }
-        ensures closes { Closes self.old.next.now self.new.next.now s end_left end_right result }
+        ensures closes { Closes self.old.next.now self.new.next.now self.old.seam end_left end_right result }
     {
+        let s = self.seam;
         let mut last = s.tail;
         if s.lower != 0 {
             self.next[last as usize] = s.lower;
@@ -116,12 +111,12 @@ impl Order<'_> {
 
 /// The lots' words on a tape, by where each begins.
 #[derive_where(Clone, Copy)]
-pub(crate) struct Words<'a, T> {
+pub(crate) struct TapeWords<'a, T> {
     pub tape: &'a T,
     pub starts: &'a [u32],
 }
 
-impl<T: Tape> Words<'_, T> {
+impl<T: Tape> TapeWords<'_, T> {
     /// Where the word of lot `x` ends in the tape.
     fn end(&self, x: usize) -> usize
         ensures is { result ≡ end_of_word (T.Tape.bits self.now.tape.now) self.now.starts.now (length self.now.starts.now) x }
@@ -141,7 +136,7 @@ impl<T: Tape> Words<'_, T> {
 pub(crate) struct Parts<'a, 'w, T> {
     pub order: Order<'a>,
     pub ends: &'a mut [u32],
-    pub words: Words<'w, T>,
+    pub words: TapeWords<'w, T>,
     ghost ends_long: { length ends.now ≡ suc order.sides.n },
     ghost ends_most: { AtMost order.sides.n ends.now },
     ghost starts_long: { length words.starts.now ≡ order.sides.n },
@@ -161,11 +156,11 @@ impl<T: Tape> Parts<'_, '_, T> {
         let words = self.words;
         let from = words.starts[k - 1] as usize;
         let upto = words.end(k);
-        let spliced = self.order.splice(words.tape, x, from, upto);
-        let seam = self.order.finish(spliced);
+        self.order.splice(words.tape, x, from, upto);
+        self.order.finish();
         let end_left = self.ends[self.order.sides.left[k] as usize];
         let end_right = self.ends[self.order.sides.right[k] as usize];
-        self.order.close(seam, end_left, end_right)
+        self.order.close(end_left, end_right)
     }
 
     /// Joins the lots from `from` up, as long as they are above `limit`: where a lot hung, the last lot of its order is written.

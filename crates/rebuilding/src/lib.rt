@@ -8,7 +8,7 @@ ghost use Rattle.leaders.specs.Rebuilt.{rebuilt};
 ghost use Rattle.rebuilding.specs.Rebuilding.{enough, Declined, Written};
 
 use bits::tape::Tape;
-use joining::{Order, Parts, Words};
+use joining::{Order, Parts, Seam, TapeWords};
 use linking::link_sheet;
 use links::Links;
 use links::sides::Sides;
@@ -39,9 +39,13 @@ fn rebuild_in<T: Tape>(tape: &T, prices: &mut [u32], work: &mut [u32])
     next.fill(0);
     let sides = Sides { n, left, right };
     let mut parts = Parts {
-        order: Order { sides, next },
+        order: Order {
+            sides,
+            next,
+            seam: Seam::default(),
+        },
         ends,
-        words: Words {
+        words: TapeWords {
             tape,
             starts: prices,
         },

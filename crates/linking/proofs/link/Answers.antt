@@ -20,12 +20,6 @@ loop-k-init g c =
       };
     }
 
-pub climb-place-requires-clause-lot : goal.climb-place-requires-clause-lot
-climb-place-requires-clause-lot g c = (c.loop-k.auto.k, omega (arith, c.loop-k.invariant.lots, c.clear.ensures.lots))
-
-pub climb-place-requires-clause-hangs : goal.climb-place-requires-clause-hangs
-climb-place-requires-clause-hangs g c = c.loop-k.invariant.tamed.hangs
-
 pub loop-k-preserved : goal.loop-k-preserved
 loop-k-preserved g c =
     let k = c.loop-k.k in

@@ -1,4 +1,4 @@
-use Rattle.std.proofs.Common.{◌≡◌, ◌-◌, ◌≤◌, ◌∙◌, eqb, arith, of_calls}
+use Rattle.std.proofs.Common.{◌-◌, ◌≤◌, ◌∙◌, eqb, arith, of_calls}
 use Rattle.leaders.specs.Sheet.{parent}
 use Rattle.links.proofs.Joins.{link_none, link_more, tally_most, parent_is}
 use Rattle.casting.proofs.linking.link.Goals as goal
@@ -36,6 +36,3 @@ loop-k-preserved g c =
       linked = rw (e.lots, e.up, e.left, e.right, e.kids) (link_more b links.n k links.up.now links.left.now links.right.now links.kids.now i.linked links.up_long links.left_long links.right_long links.kids_long c.loop-k.auto.k-counter most
           c.climb-place.result.parent c.climb-place.result.best found.0 c.climb-place.ensures.below.0 found.1);
     }
-
-pub returns-clause-linked : goal.returns-clause-linked
-returns-clause-linked g c = let e : c.loop-k.k-counter - 1 ≡ c.loop-k.links.n = omega (arith, c.loop-k.invariant.lots, c.len-k-end.ensures.count, c.loop-k.auto.k-counter-end) in rw e at c.loop-k.invariant.linked

@@ -1,11 +1,8 @@
-use Rattle.std.proofs.Common.{◌≡◌, ◌-◌, length, get_or, arith}
+use Rattle.std.proofs.Common.{length, get_or, arith}
 use Rattle.leaders.specs.Sheet.{unary}
 use Rattle.leaders.proofs.Lengths.{unary_length}
-use Rattle.casting.proofs.Puts.{begun, next_room, next_more, none_left}
+use Rattle.casting.proofs.Puts.{next_room, next_more, none_left}
 use Rattle.casting.proofs.writing.punch_brackets.Goals as goal
-
-pub loop-count-init : goal.loop-count-init
-loop-count-init g c = let P = g.P.Punch in let e : length c.args.kids.now - 0 ≡ length c.args.kids.now = omega arith in begun P.written P.room P.home _ _ _ (rw e)
 
 pub punch_count-requires : goal.punch_count-requires
 punch_count-requires g c =

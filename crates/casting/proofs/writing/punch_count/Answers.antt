@@ -1,11 +1,8 @@
-use Rattle.std.proofs.Common.{◌≡◌, ◌+◌, ◌-◌, true, false, [], arith}
+use Rattle.std.proofs.Common.{◌+◌, ◌-◌, true, false, [], arith}
 use Rattle.leaders.specs.Sheet.{unary}
 use Rattle.leaders.proofs.Lengths.{unary_length}
-use Rattle.casting.proofs.Puts.{begun, bit_more, all_added, unary_step, unary_end}
+use Rattle.casting.proofs.Puts.{bit_more, all_added, unary_step, unary_end}
 use Rattle.casting.proofs.writing.punch_count.Goals as goal
-
-pub loop-init : goal.loop-init
-loop-init g c = let P = g.P.Punch in let e : c.args.count - 0 ≡ c.args.count = omega arith in begun P.written P.room P.home _ _ _ (rw e)
 
 pub loop-preserved : goal.loop-preserved
 loop-preserved g c =

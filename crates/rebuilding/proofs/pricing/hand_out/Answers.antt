@@ -1,12 +1,6 @@
 use Rattle.std.proofs.Common.{◌≡◌, ◌+◌, ◌-◌, ◌∙◌, arith}
-use Rattle.rebuilding.proofs.Handing.{hand_none, hand_more, hand_all, hand_short}
+use Rattle.rebuilding.proofs.Handing.{hand_more, hand_all, hand_short}
 use Rattle.rebuilding.proofs.pricing.hand_out.Goals as goal
-
-pub loop-price-init : goal.loop-price-init
-loop-price-init c =
-    let o = c.args.order.now in
-    let e : o.sides.n + 1 - (o.sides.n + 1) ≡ 0 = omega arith in
-    (c.requires.first, rw e (hand_none o.sides.n o.next.now c.args.prices.now c.args.first))
 
 pub loop-price-preserved : goal.loop-price-preserved
 loop-price-preserved c =

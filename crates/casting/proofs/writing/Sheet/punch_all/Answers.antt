@@ -51,4 +51,4 @@ returns-clause-bits g c =
     let e = walked_words b w.sides.n w.sides.left.now w.sides.right.now w.kids.now c.args.self.now.sizes.now c.requires.ready c.requires.sized in
     let at = goal.at.returns-clause-bits g c in
     let z = goes_on g at.After-punch_brackets (begins g at.After-append).1 in
-    c.punch_words.ensures.bits-are ∙ ap (λ v. P.written c.punch_brackets.new.punch ++ v) e ∙ z.bits-are ∙ ap (λ v. v ++ sheet b w.sides.n) c.clear.ensures.empty
+    c.punch_words.ensures.bits_are ∙ ap (λ v. P.written c.punch_brackets.new.punch ++ v) e ∙ z.bits_are ∙ ap (λ v. v ++ sheet b w.sides.n) c.clear.ensures.empty

@@ -1,13 +1,7 @@
-use Rattle.std.proofs.Common.{◌≡◌, ◌-◌, true, false, ◌⊎◌, get_or, ap, inl, inr, arith}
-use Rattle.casting.proofs.Puts.{begun, all_added, word_more, merge_length, merge_end}
+use Rattle.std.proofs.Common.{◌≡◌, true, false, ◌⊎◌, get_or, ap, inl, inr, arith}
+use Rattle.casting.proofs.Puts.{all_added, word_more, merge_length, merge_end}
 use Rattle.casting.proofs.writing.Sheet.punch_word.Goals as goal
 use Rattle.casting.proofs.writing.Sheet.punch_word.Goals.{then-bit, else-bit}
-
-pub loop-init : goal.loop-init
-loop-init g c =
-    let P = g.P.Punch in
-    let e : c.args.size - 0 ≡ c.args.size = omega arith in
-    (c.requires.from.0, c.requires.from.1, begun P.written P.room P.home _ _ _ (rw e))
 
 pub loop-preserved : goal.loop-preserved
 loop-preserved g c =

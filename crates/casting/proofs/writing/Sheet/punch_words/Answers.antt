@@ -1,10 +1,7 @@
-use Rattle.std.proofs.Common.{◌≡◌, ◌+◌, ◌-◌, get_or, arith}
+use Rattle.std.proofs.Common.{◌+◌, get_or, arith}
 use Rattle.links.specs.Walks.{walked}
-use Rattle.casting.proofs.Puts.{begun, next_room, next_more, none_left, merge_length}
+use Rattle.casting.proofs.Puts.{next_room, next_more, none_left, merge_length}
 use Rattle.casting.proofs.writing.Sheet.punch_words.Goals as goal
-
-pub loop-k-init : goal.loop-k-init
-loop-k-init g c = let P = g.P.Punch in let e : c.args.self.now.words.sides.n + 1 - 1 ≡ c.args.self.now.words.sides.n = omega arith in begun P.written P.room P.home _ _ _ (rw e)
 
 pub punch_word-requires-clause-room : goal.punch_word-requires-clause-room
 punch_word-requires-clause-room g c =

@@ -1,7 +1,7 @@
 use Rattle.std.proofs.Common.{◌≡◌, ◌+◌, ◌++◌, take, drop, ◌∙◌, subst}
 use Rattle.bits.proofs.Bitlists.{set_at}
 use Rattle.rebuilding.specs.Seams.{Sewn}
-use Rattle.rebuilding.proofs.Reading.{drop_bit, drop_done}
+use Rattle.rebuilding.proofs.Reading.{drop_bit}
 use Rattle.rebuilding.proofs.joining.Order.splice.Goals as goal
 
 pub loop-p-preserved : goal.loop-p-preserved
@@ -9,7 +9,7 @@ loop-p-preserved g c =
     let bits = g.T.Tape.bits c.args.tape.now in
     let o = c.args.self.now in
     let i = c.loop-p.invariant in
-    let h = c.hang-s.ensures in
+    let h = c.hang.ensures in
     let p = c.loop-p.p in
     let upto = c.args.upto in
     let bit = c.unwrap_or-bit.result in
@@ -17,13 +17,6 @@ loop-p-preserved g c =
     let w = drop_bit bits p upto bit c.loop-p-test.true c.requires.word e in
     record {
       sides = h.sides ∙ i.sides;
-      seam = rw i.sides at h.seam;
       sewn = λ rest all end_l endR r. (rw i.sides at h.hangs) o.next.now c.args.x (drop (p + 1) (take upto bits) ++ rest) all end_l endR
-          (subst (λ v. Sewn o.next.now c.loop-p.self.next.now o.sides.left.now o.sides.right.now c.args.x (v ++ rest) all c.loop-p.s end_l endR) w (i.sewn rest all end_l endR r));
+          (subst (λ v. Sewn o.next.now c.loop-p.self.next.now o.sides.left.now o.sides.right.now c.args.x (v ++ rest) all c.loop-p.self.seam end_l endR) w (i.sewn rest all end_l endR r));
     }
-
-pub returns-clause-spliced : goal.returns-clause-spliced
-returns-clause-spliced g c rest all end_l endR r =
-    let o = c.args.self.now in
-    subst (λ v. Sewn o.next.now c.loop-p.self.next.now o.sides.left.now o.sides.right.now c.args.x (v ++ rest) all c.loop-p.s end_l endR)
-    (drop_done (g.T.Tape.bits c.args.tape.now) c.loop-p.p c.args.upto c.loop-p-test.false) (c.loop-p.invariant.sewn rest all end_l endR r)
