@@ -1,14 +1,13 @@
 -- Steps of the loops that walk and punch.
 use Rattle.std.proofs.Common.{◌≡◌, ℕ, zero, suc, ◌+◌, ◌-◌, ◌<◌, ◌≤◌, Bool, true, false, ◌⊎◌, List, [], ◌∷◌, ◌++◌, length, get_or, Result, sym, refl, ap, ◌∙◌, inl, inr, append_assoc, arith, length-append}
 use Rattle.std.proofs.lemmas.Bool.{cond_both}
+use Rattle.std.proofs.lemmas.List.{append-nil}
 use Rattle.bits.specs.Punching.{Appends}
 use Rattle.bits.proofs.Letters.{appended}
-use Rattle.leaders.specs.Sheet.{unary}
-use Rattle.leaders.specs.Sheet.{spread}
+use Rattle.leaders.specs.Sheet.{spread, unary}
 use Rattle.links.specs.Walks.{turn, merge}
 use Rattle.links.proofs.Loops.{spread_step, spread_end}
 use Rattle.casting.specs.Adding.{Adds}
-use Rattle.std.proofs.lemmas.List.{append-nil}
 
 -- one more bit of a text that there is room for
 pub put : {E : Type 0} (r : Result (Unit {0}) E) (room : ℕ) (before after : List Bool) (bit : Bool) (rest all : List Bool) → Appends r room before after bit → before ++ bit ∷ rest ≡ all → length all ≤ room → after ++ rest ≡ all

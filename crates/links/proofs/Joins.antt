@@ -61,6 +61,9 @@ tally_more f i (suc n) k z =
     let h = tally_more f (suc i) n k (omega arith) in
     elim (cases_Bool (f i)) [ inl p ↦ grind (arith, h, p) | inr p ↦ grind (arith, h, p) ]
 
+pub none_on_first : (n : ℕ) (was left : List ℕ) → length was ≡ suc n → left ≡ set was 0 0 → get_or left 0 0 ≡ 0
+none_on_first n was left long e = rw e (get_or-set_same was 0 0 0 (omega arith))
+
 pub link_none : (b : ℕ → ℕ → Bool) (n : ℕ) (up left right kids : List ℕ) → get_or left 0 0 ≡ 0 → ((k : ℕ) → k ≤ n → get_or right k 0 ≡ 0) → ((k : ℕ) → k ≤ n → get_or kids k 0 ≡ 0) → Linked b n 0 up left right kids
 unfolding last_child tally
 link_none b n up left right kids e f g = record { parents = λ k p q. absurd (omega arith); first = e; lefts = λ k p q. absurd (omega arith); rights = f; counts = g }

@@ -25,6 +25,11 @@ Rises n xs = (k : ℕ) → k ≤ n → (slice_index xs k ≡ 0) ⊎ (k < slice_i
 abbrev pub Hangs : ℕ → List ℕ → Type 0
 Hangs k up = (m : ℕ) → 1 ≤ m → m < k → slice_index up m < m
 
+-- from node x up, where the test says no at the nodes `passed`, one comes to node parent; best is the last of them, or `last` where there is none
+abbrev pub Passes : List ℕ → (ℕ → Bool → Type 0) → ℕ → ℕ → List ℕ → ℕ → ℕ → Type 0
+Passes up says x last [] parent best = (x ≡ parent) × (last ≡ best)
+Passes up says x last (y ∷ ys) parent best = (x ≡ y) × (1 ≤ y) × says y false × Passes up says (slice_index up y) y ys parent best
+
 -- is the next of the two lots i and j the second
 abbrev pub turn : (ℕ → ℕ → Bool) → ℕ → ℕ → Bool
 turn b i j = i == 0 || (not (j == 0) && not (b i j))

@@ -6,11 +6,11 @@
 
 pub mod sides;
 
-ghost use Rattle.std.specs.Prelude.{◌≡◌, ℕ, suc, ◌+◌, ◌-◌, ◌*◌, ◌^◌, ◌<◌, ◌≤◌, Bool, true, ◌⊎◌, length, slice_index, slice_set};
+ghost use Rattle.std.specs.Prelude.{◌≡◌, ℕ, suc, ◌+◌, ◌-◌, ◌*◌, ◌^◌, ◌<◌, ◌≤◌, Bool, true, ◌⊎◌, List, ◌++◌, length, slice_index, slice_set};
 ghost use Rattle.leaders.specs.Order.{Strict};
 ghost use Rattle.leaders.specs.Sheet.{parent};
 ghost use Rattle.links.specs.Links.{Top, Tells};
-ghost use Rattle.links.specs.Walks.{Hangs, AtMost, Rises};
+ghost use Rattle.links.specs.Walks.{Hangs, Passes, AtMost, Rises};
 
 use sides::{Sides, Words};
 
@@ -41,7 +41,8 @@ impl<'a> Links<'a> {
     pub fn over(work: &'a mut [u32], n: usize) -> Links<'a>
         requires few { n < 2 ^ 30 }
         requires numbers { length work.old ≡ 4 * (n + 1) }
-        ensures { result.n ≡ n }
+        ensures lots { result.n ≡ n }
+        ensures parts { work.old ≡ result.up.now ++ (result.left.now ++ (result.right.now ++ result.kids.now)) }
     {
         let (up, others) = work.split_at_mut(n + 1);
         let (left, more) = others.split_at_mut(n + 1);
@@ -58,7 +59,8 @@ impl<'a> Links<'a> {
     /// No lot is linked.
     pub fn clear(&mut self)
         ensures lots { self.new.n ≡ self.old.n }
-        ensures first { slice_index self.new.left.now 0 ≡ 0 }
+        ensures up { self.new.up.now ≡ self.old.up.now }
+        ensures left { self.new.left.now ≡ slice_set self.old.left.now 0 0 }
         ensures rights { (k : ℕ) → k ≤ self.new.n → slice_index self.new.right.now k ≡ 0 }
         ensures counts { (k : ℕ) → k ≤ self.new.n → slice_index self.new.kids.now k ≡ 0 }
     {
@@ -89,6 +91,7 @@ impl<'a> Links<'a> {
         requires lot { (1 ≤ k) × (k ≤ self.now.n) }
         requires hangs { Hangs k self.now.up.now }
         requires stops { (x : ℕ) → 1 ≤ x → x < k → F.pre stops x }
+        ensures path { (passed : List ℕ) × Passes self.now.up.now (F.post stops) (k - 1) 0 passed result.parent result.best }
         ensures below { (result.parent < k) × (result.best < k) }
         ensures stopped { (result.parent ≡ 0) ⊎ F.post stops result.parent true }
         // for every order of which the test tells whether a lot beats lot k

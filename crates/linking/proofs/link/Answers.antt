@@ -1,6 +1,6 @@
 use Rattle.std.proofs.Common.{◌≡◌, ◌+◌, ◌-◌, ◌≤◌, not, eqb, ◌⊎◌, get_or, inl, inr, sym, ◌∙◌, arith, of_calls}
 use Rattle.leaders.specs.Sheet.{children}
-use Rattle.links.proofs.Joins.{link_none, link_more}
+use Rattle.links.proofs.Joins.{none_on_first, link_none, link_more}
 use Rattle.linking.proofs.Climbing.{place_tells, some_place}
 use Rattle.linking.proofs.Hanging.{rest, rest_step, rest_first, places_more, tame_none, tame_more}
 use Rattle.linking.proofs.link.Goals as goal
@@ -9,12 +9,13 @@ pub loop-k-init : goal.loop-k-init
 loop-k-init g c =
     let links = c.clear.new.self in
     let e = c.clear.ensures in
+    let first = none_on_first c.args.links.now.n c.args.links.now.left.now links.left.now c.args.links.now.left_long e.left in
     let bs = g.T.Tape.bits c.args.tape.now in
     record {
       lots = e.lots;
-      tamed = tame_none links.n _ _ _ _ e.first e.rights e.counts;
+      tamed = tame_none links.n _ _ _ _ first e.rights e.counts;
       going = λ b s w. record {
-        linked = link_none b links.n _ _ _ _ e.first e.rights e.counts;
+        linked = link_none b links.n _ _ _ _ first e.rights e.counts;
         free = λ x p q. absurd (omega arith);
         ahead = (c.read-at.ensures (children b links.n 0) (rest b links.n 1) (rest_first b links.n bs w)).1;
       };

@@ -1,12 +1,12 @@
 use Rattle.std.proofs.Common.{◌-◌, ◌≤◌, ◌∙◌, eqb, arith, of_calls}
 use Rattle.leaders.specs.Sheet.{parent}
-use Rattle.links.proofs.Joins.{link_none, link_more, tally_most, parent_is}
+use Rattle.links.proofs.Joins.{none_on_first, link_none, link_more, tally_most, parent_is}
 use Rattle.casting.proofs.linking.link.Goals as goal
 
 pub loop-k-init : goal.loop-k-init
 loop-k-init g c = record {
   lots = c.clear.ensures.lots ∙ c.requires;
-  linked = link_none (g.L.Lots.order c.args.lots.now) c.clear.new.self.n _ _ _ _ c.clear.ensures.first c.clear.ensures.rights c.clear.ensures.counts;
+  linked = link_none (g.L.Lots.order c.args.lots.now) c.clear.new.self.n _ _ _ _ (none_on_first c.args.links.now.n c.args.links.now.left.now c.clear.new.self.left.now c.args.links.now.left_long c.clear.ensures.left) c.clear.ensures.rights c.clear.ensures.counts;
 }
 
 pub climb-place-requires-clause-hangs : goal.climb-place-requires-clause-hangs
