@@ -99,6 +99,7 @@ impl<'a> Links<'a> {
     {
         let mut x = (k - 1) as u32;
         let mut last = 0;
+        // Node 0 is the root, where the climb ends.
         while x != 0 && !stops(x) {
             last = x;
             x = self.up[x as usize];

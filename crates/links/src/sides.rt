@@ -25,6 +25,7 @@ impl Sides<'_> {
     {
         let mut x = start;
         let mut steps = 0;
+        // 0 ends the list, as it is stored.
         while x != 0 {
             steps += 1;
             x = self.right[x as usize];

@@ -35,6 +35,7 @@ fn rebuild_in<T: Tape>(tape: &T, prices: &mut [u32], work: &mut [u32])
         right,
         kids: next,
     } = links;
+    // Node 0 is the root, which hangs on none.
     ends[0] = 0;
     next.fill(0);
     let sides = Sides { n, left, right };

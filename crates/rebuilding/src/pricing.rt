@@ -12,6 +12,7 @@ pub(crate) fn hand_out(prices: &mut [u32], order: &Order, first: u32)
 {
     let mut x = first;
     for price in (1..order.sides.n + 1).rev() {
+        // 0 ends the list, as it is stored.
         if x == 0 {
             return;
         }
