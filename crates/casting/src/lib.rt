@@ -8,6 +8,8 @@ ghost use Rattle.leaders.specs.Sheet.{sheet};
 ghost use Rattle.casting.specs.Casts.{told, casting, punch_of_sheet, cast_sheet};
 
 use bits::punch::Punch;
+use links::Links;
+use links::sides::{Sides, Words};
 
 mod linking;
 mod writing;
@@ -52,24 +54,27 @@ impl CastFault {
 }
 
 /// Casts with exactly the working numbers that it takes.
-fn cast_in<L: Lots, P: Punch>(
-    lots: &L,
-    punch: &mut P,
-    work: &mut [u32],
-    n: usize,
-) -> Result<u32, CastFault>
-    requires count { (n ≡ L.Lots.count lots.now) × (n < 2 ^ 30) }
-    requires strict { Strict (L.Lots.order lots.now) }
-    requires numbers { length work.old ≡ 4 * (n + 1) }
-    ensures bits { casting (P.Punch.written punch.new) (answered told result) ≡ punch_of_sheet (sheet (L.Lots.order lots.now) n) (P.Punch.room punch.old) (P.Punch.written punch.old) }
+fn cast_in<L: Lots, P: Punch>(lots: &L, punch: &mut P, work: &mut [u32]) -> Result<u32, CastFault>
+    requires { length work.old ≡ 4 * (L.Lots.count lots.now + 1) }
+    ensures bits { casting (P.Punch.written punch.new) (answered told result) ≡ punch_of_sheet (sheet (L.Lots.order lots.now) (L.Lots.count lots.now)) (P.Punch.room punch.old) (P.Punch.written punch.old) }
     ensures room { P.Punch.room punch.new ≡ P.Punch.room punch.old }
     ensures home { P.Punch.home punch.new ≡ P.Punch.home punch.old }
 {
-    let (up, others) = work.split_at_mut(n + 1);
-    let (left, more) = others.split_at_mut(n + 1);
-    let (right, kids) = more.split_at_mut(n + 1);
-    linking::link(lots, up, left, right, kids, n);
-    writing::punch_linked(lots, punch, up, left, right, kids, n)
+    let n = lots.len();
+    let mut links = Links::over(work, n);
+    linking::link(lots, &mut links);
+    let Links {
+        n,
+        up: sizes,
+        left,
+        right,
+        kids,
+    } = links;
+    let words = Words {
+        sides: Sides { n, left, right },
+        kids,
+    };
+    writing::punch_linked(lots, punch, words, sizes)
 }
 
 /// Casts the sheet of `lots`: links them in the working numbers, and then punches the brackets and the words.
@@ -84,5 +89,5 @@ pub fn cast<L: Lots, P: Punch>(lots: &L, punch: &mut P, work: &mut [u32]) -> Res
     if work.len() / 4 <= n {
         return Err(CastFault::FewNumbers);
     }
-    cast_in(lots, punch, &mut work[0..4 * (n + 1)], n)
+    cast_in(lots, punch, &mut work[0..4 * (n + 1)])
 }

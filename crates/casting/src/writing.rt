@@ -1,36 +1,26 @@
 // The brackets and the words of linked lots.
-ghost use Rattle.std.specs.Prelude.{◌≡◌, suc, ◌+◌, ◌-◌, ◌*◌, ◌^◌, ◌<◌, ◌≤◌, ◌++◌, length};
-ghost use Rattle.leaders.specs.Sheet.{unary};
-ghost use Rattle.leaders.specs.Order.{Strict};
-ghost use Rattle.leaders.specs.Sheet.{sheet};
-ghost use Rattle.links.specs.Links.{Linked};
-ghost use Rattle.links.specs.Walks.{AtMost, turn, merge, tallies, Sized, Ready};
-ghost use Rattle.leaders.specs.Sheet.{spines};
+ghost use Rattle.std.specs.Prelude.{◌≡◌, ℕ, suc, ◌+◌, ◌*◌, ◌<◌, ◌≤◌, Bool, length};
+ghost use Rattle.leaders.specs.Sheet.{unary, spread, spines, sheet};
 ghost use Rattle.leaders.specs.Refusal.{answered};
+ghost use Rattle.links.specs.Made.{WordsReady};
+ghost use Rattle.links.specs.Walks.{turn, merge, walked, tallies, Sized};
+ghost use Rattle.casting.specs.Adding.{Adds};
 ghost use Rattle.casting.specs.Casts.{told, casting, punch_of_sheet};
 
 use crate::{CastFault, Lots};
 use bits::punch::Punch;
-use links::steps;
+use links::sides::{Sides, Words};
 
 /// Writes how many symbols each lot's word has, and gives their sum.
-fn measure<L: Lots>(
-    lots: &L,
-    sizes: &mut [u32],
-    left: &[u32],
-    right: &[u32],
-    kids: &[u32],
-    n: usize,
-) -> usize
-    requires lengths { (length sizes.old ≡ suc n) × (length left.now ≡ suc n) × (length right.now ≡ suc n) × (length kids.now ≡ suc n) }
-    requires ready { Ready (L.Lots.order lots.now) n left.now right.now kids.now }
-    requires few { n < 2 ^ 30 }
-    ensures sized { Sized (L.Lots.order lots.now) n n sizes.new }
-    ensures all { result ≡ length (spines (L.Lots.order lots.now) n) }
+fn measure(words: Words, sizes: &mut [u32]) -> usize
+    requires { length sizes.old ≡ suc words.sides.n }
+    // for every order that the words are ready for
+    ensures { (b : ℕ → ℕ → Bool) → WordsReady b words.entry → Sized b words.entry.sides.n words.entry.sides.n sizes.new × (result ≡ length (spines b words.entry.sides.n)) }
 {
     let mut all = 0;
-    for k in 1..n + 1 {
-        let size = (steps(right, left[k], n) + kids[k] as usize).saturating_sub(1);
+    // By the lots' numbers, by which all lists are read; node 0 has no word.
+    for k in 1..words.sides.n + 1 {
+        let size = words.size(k);
         sizes[k] = size as u32;
         all += size;
     }
@@ -40,9 +30,7 @@ fn measure<L: Lots>(
 /// Punches a count: so many set bits and then another.
 fn punch_count<P: Punch>(punch: &mut P, count: u32)
     requires { length (P.Punch.written punch.old) + suc count ≤ P.Punch.room punch.old }
-    ensures bits { P.Punch.written punch.new ≡ P.Punch.written punch.old ++ unary count }
-    ensures room { P.Punch.room punch.new ≡ P.Punch.room punch.old }
-    ensures home { P.Punch.home punch.new ≡ P.Punch.home punch.old }
+    ensures { Adds P.Punch.written P.Punch.room P.Punch.home punch.old punch.new (unary count) }
 {
     for _ in 0..count {
         let _ = punch.append(true);
@@ -53,125 +41,108 @@ fn punch_count<P: Punch>(punch: &mut P, count: u32)
 /// Punches the counts of children.
 fn punch_brackets<P: Punch>(punch: &mut P, kids: &[u32])
     requires { length (P.Punch.written punch.old) + length (tallies kids.now) ≤ P.Punch.room punch.old }
-    ensures bits { P.Punch.written punch.new ≡ P.Punch.written punch.old ++ tallies kids.now }
-    ensures room { P.Punch.room punch.new ≡ P.Punch.room punch.old }
-    ensures home { P.Punch.home punch.new ≡ P.Punch.home punch.old }
+    ensures { Adds P.Punch.written P.Punch.room P.Punch.home punch.old punch.new (tallies kids.now) }
 {
-    for j in 0..kids.len() {
-        punch_count(punch, kids[j]);
+    for count in kids {
+        punch_count(punch, *count);
     }
 }
 
-/// Whether of two lots, or 0 for none, the second comes next.
-fn turns<L: Lots>(lots: &L, i: u32, j: u32) -> bool
-    requires { (i ≤ L.Lots.count lots.now) × (j ≤ L.Lots.count lots.now) }
-    ensures { result ≡ turn (L.Lots.order lots.now) i j }
-{
-    i == 0 || (j != 0 && !lots.beats(i as usize, j as usize))
+/// Where the two walks of a word stand, one along the right and the other along the left; 0 where a walk has ended, as it is stored.
+#[derive(Clone, Copy)]
+struct Walks {
+    lower: u32,
+    upper: u32,
 }
 
-/// Punches the first `size` symbols of the merged walks from `i` along right and from `j` along left.
-fn punch_word<L: Lots, P: Punch>(
-    lots: &L,
-    punch: &mut P,
-    left: &[u32],
-    right: &[u32],
-    from: (u32, u32),
-    size: u32,
-)
-    requires lengths { (length left.now ≡ suc (L.Lots.count lots.now)) × (length right.now ≡ suc (L.Lots.count lots.now)) }
-    requires from { (from.0 ≤ L.Lots.count lots.now) × (from.1 ≤ L.Lots.count lots.now) }
-    requires lowers { AtMost (L.Lots.count lots.now) left.now }
-    requires uppers { AtMost (L.Lots.count lots.now) right.now }
-    requires room { length (P.Punch.written punch.old) + size ≤ P.Punch.room punch.old }
-    ensures bits { P.Punch.written punch.new ≡ P.Punch.written punch.old ++ merge (L.Lots.order lots.now) left.now right.now size from.0 from.1 }
-    ensures room { P.Punch.room punch.new ≡ P.Punch.room punch.old }
-    ensures home { P.Punch.home punch.new ≡ P.Punch.home punch.old }
+/// Whether the next symbol is that of the walk along the left.
+fn turns<L: Lots>(lots: &L, at: Walks) -> bool
+    requires { (at.lower ≤ L.Lots.count lots.now) × (at.upper ≤ L.Lots.count lots.now) }
+    ensures { result ≡ turn (L.Lots.order lots.now) at.lower at.upper }
 {
-    let mut i = from.0;
-    let mut j = from.1;
-    for _ in 0..size {
-        let bit = turns(lots, i, j);
-        let _ = punch.append(bit);
-        if bit {
-            j = left[j as usize];
-        } else {
-            i = right[i as usize];
+    at.lower == 0 || (at.upper != 0 && !lots.beats(at.lower as usize, at.upper as usize))
+}
+
+/// What a sheet is punched from: the lots, their words, and how many symbols each word has.
+#[derive(Drop)]
+struct Sheet<'a, L: Lots> {
+    lots: &'a L,
+    words: Words<'a>,
+    sizes: &'a [u32],
+    ghost count: { words.sides.n ≡ L.Lots.count lots.now },
+    ghost sizes_long: { length sizes.now ≡ suc words.sides.n },
+}
+
+impl<L: Lots> Sheet<'_, L> {
+    /// Punches the first `size` symbols of two merged walks.
+    fn punch_word<P: Punch>(&self, punch: &mut P, from: Walks, size: u32)
+        requires from { (from.lower ≤ self.now.words.sides.n) × (from.upper ≤ self.now.words.sides.n) }
+        requires room { length (P.Punch.written punch.old) + size ≤ P.Punch.room punch.old }
+        ensures { Adds P.Punch.written P.Punch.room P.Punch.home punch.old punch.new (merge (L.Lots.order self.now.lots.now) self.now.words.sides.left.now self.now.words.sides.right.now size from.lower from.upper) }
+    {
+        let sides = self.words.sides;
+        let mut at = from;
+        for _ in 0..size {
+            let bit = turns(self.lots, at);
+            let _ = punch.append(bit);
+            if bit {
+                at.upper = sides.left[at.upper as usize];
+            } else {
+                at.lower = sides.right[at.lower as usize];
+            }
         }
     }
-}
 
-/// Punches the words of all lots.
-fn punch_words<L: Lots, P: Punch>(
-    lots: &L,
-    punch: &mut P,
-    sizes: &[u32],
-    left: &[u32],
-    right: &[u32],
-    kids: &[u32],
-    n: usize,
-)
-    requires count { (n ≡ L.Lots.count lots.now) × (n < 2 ^ 30) }
-    requires lengths { (length sizes.now ≡ suc n) × (length left.now ≡ suc n) × (length right.now ≡ suc n) }
-    requires ready { Ready (L.Lots.order lots.now) n left.now right.now kids.now }
-    requires sized { Sized (L.Lots.order lots.now) n n sizes.now }
-    requires room { length (P.Punch.written punch.old) + length (spines (L.Lots.order lots.now) n) ≤ P.Punch.room punch.old }
-    ensures bits { P.Punch.written punch.new ≡ P.Punch.written punch.old ++ spines (L.Lots.order lots.now) n }
-    ensures room { P.Punch.room punch.new ≡ P.Punch.room punch.old }
-    ensures home { P.Punch.home punch.new ≡ P.Punch.home punch.old }
-{
-    for k in 1..n + 1 {
-        punch_word(lots, punch, left, right, (left[k], right[k]), sizes[k]);
+    /// Punches the symbols of all lots' walks, for each lot as many as its size says.
+    fn punch_words<P: Punch>(&self, punch: &mut P)
+        requires { length (P.Punch.written punch.old) + length (spread (walked (L.Lots.order self.now.lots.now) self.now.words.sides.left.now self.now.words.sides.right.now self.now.sizes.now) 1 self.now.words.sides.n) ≤ P.Punch.room punch.old }
+        ensures { Adds P.Punch.written P.Punch.room P.Punch.home punch.old punch.new (spread (walked (L.Lots.order self.now.lots.now) self.now.words.sides.left.now self.now.words.sides.right.now self.now.sizes.now) 1 self.now.words.sides.n) }
+    {
+        let sides = self.words.sides;
+        // By the lots' numbers, by which all lists are read; node 0 has no word.
+        for k in 1..sides.n + 1 {
+            let from = Walks {
+                lower: sides.left[k],
+                upper: sides.right[k],
+            };
+            self.punch_word(punch, from, self.sizes[k]);
+        }
+    }
+
+    /// Punches all, where there is room and the sizes are those of the words.
+    fn punch_all<P: Punch>(&self, punch: &mut P)
+        requires ready { WordsReady (L.Lots.order self.now.lots.now) self.now.words }
+        requires sized { Sized (L.Lots.order self.now.lots.now) self.now.words.sides.n self.now.words.sides.n self.now.sizes.now }
+        requires room { length (sheet (L.Lots.order self.now.lots.now) self.now.words.sides.n) ≤ P.Punch.room punch.old }
+        ensures bits { P.Punch.written punch.new ≡ sheet (L.Lots.order self.now.lots.now) self.now.words.sides.n }
+        ensures room { P.Punch.room punch.new ≡ P.Punch.room punch.old }
+        ensures home { P.Punch.home punch.new ≡ P.Punch.home punch.old }
+    {
+        punch.clear();
+        let _ = punch.append(true);
+        punch_brackets(punch, self.words.kids);
+        self.punch_words(punch);
     }
 }
 
-/// Punches the sheet of linked lots, for which there is room.
-fn punch_sheet<L: Lots, P: Punch>(
-    lots: &L,
-    punch: &mut P,
-    sizes: &[u32],
-    left: &[u32],
-    right: &[u32],
-    kids: &[u32],
-    n: usize,
-)
-    requires count { (n ≡ L.Lots.count lots.now) × (n < 2 ^ 30) }
-    requires lengths { (length sizes.now ≡ suc n) × (length left.now ≡ suc n) × (length right.now ≡ suc n) }
-    requires ready { Ready (L.Lots.order lots.now) n left.now right.now kids.now }
-    requires sized { Sized (L.Lots.order lots.now) n n sizes.now }
-    requires room { length (sheet (L.Lots.order lots.now) n) ≤ P.Punch.room punch.old }
-    ensures bits { P.Punch.written punch.new ≡ sheet (L.Lots.order lots.now) n }
-    ensures room { P.Punch.room punch.new ≡ P.Punch.room punch.old }
-    ensures home { P.Punch.home punch.new ≡ P.Punch.home punch.old }
-{
-    punch.clear();
-    let _ = punch.append(true);
-    punch_brackets(punch, kids);
-    punch_words(lots, punch, sizes, left, right, kids, n);
-}
-
-/// Punches the sheet of linked lots, if there is room for it.
+/// Punches the sheet of linked lots, if there is room for it; `sizes` has the sizes of the words meanwhile.
 pub(crate) fn punch_linked<L: Lots, P: Punch>(
     lots: &L,
     punch: &mut P,
-    up: &mut [u32],
-    left: &[u32],
-    right: &[u32],
-    kids: &[u32],
-    n: usize,
+    words: Words,
+    sizes: &mut [u32],
 ) -> Result<u32, CastFault>
-    requires count { (n ≡ L.Lots.count lots.now) × (n < 2 ^ 30) }
-    requires strict { Strict (L.Lots.order lots.now) }
-    requires lengths { (length up.old ≡ suc n) × (length left.now ≡ suc n) × (length right.now ≡ suc n) × (length kids.now ≡ suc n) }
-    requires linked { Linked (L.Lots.order lots.now) n n up.old left.now right.now kids.now }
-    ensures bits { casting (P.Punch.written punch.new) (answered told result) ≡ punch_of_sheet (sheet (L.Lots.order lots.now) n) (P.Punch.room punch.old) (P.Punch.written punch.old) }
+    requires lots { words.sides.n ≡ L.Lots.count lots.now }
+    requires sizes { length sizes.old ≡ suc words.sides.n }
+    requires ready { WordsReady (L.Lots.order lots.now) words }
+    ensures bits { casting (P.Punch.written punch.new) (answered told result) ≡ punch_of_sheet (sheet (L.Lots.order lots.now) words.entry.sides.n) (P.Punch.room punch.old) (P.Punch.written punch.old) }
     ensures room { P.Punch.room punch.new ≡ P.Punch.room punch.old }
     ensures home { P.Punch.home punch.new ≡ P.Punch.home punch.old }
 {
-    let length = 2 * (n + 1) + measure(lots, up, left, right, kids, n);
+    let length = 2 * (words.sides.n + 1) + measure(words, sizes);
     if punch.capacity() < length {
         return Err(CastFault::TooLong(length as u32));
     }
-    punch_sheet(lots, punch, up, left, right, kids, n);
+    Sheet { lots, words, sizes }.punch_all(punch);
     Ok(length as u32)
 }

@@ -1,11 +1,13 @@
 -- On the way up from a lot, a node has a place left exactly when it beats the next lot.
-use Rattle.std.proofs.Common.{◌≡◌, ℕ, zero, suc, ◌+◌, ◌-◌, ◌<◌, ◌≤◌, Bool, true, false, cond, eqb, ◌≢◌, sym, ap, ◌∙◌, subst, inl, inr, arith}
+use Rattle.std.proofs.Common.{◌≡◌, ℕ, zero, suc, ◌+◌, ◌-◌, ◌<◌, ◌≤◌, Bool, true, false, cond, eqb, not, ◌≢◌, List, get_or, refl, sym, ap, ◌∙◌, subst, inl, inr, arith}
 use Rattle.std.proofs.lemmas.Bool.{cases_Bool, cases_eq, eq-eqb, ne_eqb, both_ways}
 use Rattle.leaders.specs.Order.{Strict}
 use Rattle.leaders.specs.Sheet.{parent, tally, children}
 use Rattle.leaders.proofs.Sheets.{Highest}
 use Rattle.links.specs.Links.{children_to}
-use Rattle.links.proofs.Joins.{Climbed, parent_is, climb_end, tally_more}
+use Rattle.linking.specs.Linking.{Places}
+use Rattle.links.specs.Links.{Climbed}
+use Rattle.links.proofs.Joins.{parent_is, climb_end, tally_more}
 
 -- a count stays where no number after the first m passes, and it never falls
 pub tally_stays : (f : ℕ → Bool) (m d : ℕ) → ((j : ℕ) → m < j → j ≤ m + d → f j ≡ false) → tally f 1 (m + d) ≡ tally f 1 m
@@ -74,3 +76,16 @@ module _ (b : ℕ → ℕ → Bool) (s : Strict b) (n k x last places : ℕ) (c 
         let g : k - 1 + (n - (k - 1)) ≡ n = omega arith in
         absurd (omega (arith, r, ap (tally (λ i. eqb (parent b i) x) 1) g))
   ]
+
+-- that a node has a place left tells that it beats lot k
+pub place_tells : (b : ℕ → ℕ → Bool) → Strict b → (n k : ℕ) (places : List ℕ) → k ≤ n → Places b n (k - 1) places → (x last : ℕ) → Climbed b k x last → 1 ≤ x → not (eqb (get_or places (x - 1) 0) 0) ≡ b x k
+place_tells b s n k places upto free x last way one =
+    let here = free x one (omega (arith, way.below)) in
+    elim (cases_eq (get_or places (x - 1) 0) 0) [
+      | inl z ↦ let f = no_place b s n k x last (get_or places (x - 1) 0) way (omega arith) upto here z in let e = eq-eqb (get_or places (x - 1) 0) 0 z in rw (f, e)
+      | inr z ↦ let f = a_place b s n k x last (get_or places (x - 1) 0) way (omega arith) upto here z in let e = ne_eqb (get_or places (x - 1) 0) 0 z in rw (f, e)
+    ]
+
+pub some_place : (places : ℕ) → true ≡ not (eqb places 0) → 1 ≤ places
+some_place zero e = absurd (both_ways true e refl)
+some_place (suc places) e = omega arith

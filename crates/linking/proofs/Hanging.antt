@@ -4,11 +4,11 @@ use Rattle.std.proofs.lemmas.List.{length-set}
 use Rattle.std.proofs.lemmas.Bool.{cases_eq, ne_eqb}
 use Rattle.leaders.specs.Sheet.{parent, tally, children, unary, spread, spines, sheet}
 use Rattle.links.specs.Links.{Linked, children_to}
-use Rattle.links.specs.Walks.{AtMost, Rises}
+use Rattle.links.specs.Walks.{Hangs, AtMost, Rises}
 use Rattle.links.proofs.Joins.{parent_is}
 use Rattle.links.proofs.Loops.{spread_step}
 use Rattle.links.proofs.Walking.{sheet_parts}
-use Rattle.linking.specs.Linking.{Hangs, Places, less_place}
+use Rattle.linking.specs.Linking.{Places, less_place}
 use Rattle.linking.proofs.Climbing.{tally_stays, children_more, children_same}
 
 -- the counts of the nodes from k on, and the words

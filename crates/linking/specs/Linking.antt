@@ -8,10 +8,6 @@ use Rattle.links.specs.Walks.{AtMost, Rises}
 abbrev pub Starts : (ℕ → ℕ → Bool) → ℕ → ℕ → List ℕ → Type 0
 Starts b n m starts = (k : ℕ) → 1 ≤ k → k ≤ m → slice_index starts (k - 1) ≡ 2 * n + 2 + length (spread (spine_of b n) 1 (k - 1))
 
--- Each lot below k hangs on a lower node.
-abbrev pub Hangs : ℕ → List ℕ → Type 0
-Hangs k up = (m : ℕ) → 1 ≤ m → m < k → slice_index up m < m
-
 -- Whatever the bits are, the numbers stay among the lots: a lot hangs on a lower node, and on the right of a node stands a higher lot or none.
 pub record Tame (n : ℕ) (up left right : List ℕ) : Type 0 where
   pub hangs : (k : ℕ) → 1 ≤ k → k ≤ n → slice_index up k < k

@@ -1,11 +1,11 @@
 -- How the pass over the lots links one more.
-use Rattle.std.proofs.Common.{◌≡◌, ℕ, zero, suc, ◌+◌, ◌-◌, ◌<◌, ◌≤◌, Bool, true, false, cond, eqb, ◌≢◌, ◌⊎◌, List, length, get_or, set, sym, refl, ◌∙◌, subst, inl, inr, arith, get_or-set_other, get_or-set_same}
+use Rattle.std.proofs.Common.{◌≡◌, ℕ, zero, suc, ◌+◌, ◌-◌, ◌<◌, ◌≤◌, Bool, true, false, cond, eqb, ◌≢◌, ◌⊎◌, List, length, get_or, set, sym, ◌∙◌, subst, inl, inr, arith, get_or-set_other, get_or-set_same}
 use Rattle.std.proofs.lemmas.Bool.{cond_both, cases_eq, cases_order, cases_Bool, cases_lt, eqb-true, eqb-false, both_ways}
 use Rattle.leaders.specs.Order.{Strict}
 use Rattle.leaders.specs.Sheet.{parent, tally}
 use Rattle.leaders.proofs.Trees.{asym}
 use Rattle.leaders.proofs.Sheets.{Highest, highest_is}
-use Rattle.links.specs.Links.{Top, last_child, children_to, Linked}
+use Rattle.links.specs.Links.{Climbed, Top, last_child, children_to, Linked}
 
 pub parent_is : (b : ℕ → ℕ → Bool) (k : ℕ) → Highest b k (k - 1) (parent b k)
 unfolding parent
@@ -17,16 +17,6 @@ highest_one b i j p q g h = elim (cases_order p q) [
   | inr (inl e) ↦ elim h.beats [ inl z ↦ absurd (omega arith) | inr z ↦ absurd (both_ways (b q i) (g.none q e h.upto) z) ]
   | inr (inr e) ↦ elim g.beats [ inl z ↦ absurd (omega arith) | inr z ↦ absurd (both_ways (b p i) (h.none p e g.upto) z) ]
 ]
-
--- from lot k - 1 up to x: k beats all between, and the best of them hangs on x
-pub record Climbed (b : ℕ → ℕ → Bool) (k x last : ℕ) : Type 0 where
-  pub below : x < k
-  pub beaten : (m : ℕ) → x < m → m < k → b m k ≡ false
-  pub top : Top b (suc x) (k - 1) last
-  pub hangs : 1 ≤ last → parent b last ≡ x
-
-pub climb_start : (b : ℕ → ℕ → Bool) (k : ℕ) → 1 ≤ k → Climbed b k (k - 1) 0
-climb_start b k p = record { below = omega arith; beaten = λ m u v. absurd (omega arith); top = inl (omega arith, refl); hangs = λ q. absurd (omega arith) }
 
 module _ (b : ℕ → ℕ → Bool) (s : Strict b) where
   pub beaten_false : (x y : ℕ) → b x y ≡ true → b y x ≡ false
@@ -70,6 +60,9 @@ tally_more f i zero k z = let e : k ≡ i = omega arith in rw e
 tally_more f i (suc n) k z =
     let h = tally_more f (suc i) n k (omega arith) in
     elim (cases_Bool (f i)) [ inl p ↦ grind (arith, h, p) | inr p ↦ grind (arith, h, p) ]
+
+pub none_on_first : (n : ℕ) (was left : List ℕ) → length was ≡ suc n → left ≡ set was 0 0 → get_or left 0 0 ≡ 0
+none_on_first n was left long e = rw e (get_or-set_same was 0 0 0 (omega arith))
 
 pub link_none : (b : ℕ → ℕ → Bool) (n : ℕ) (up left right kids : List ℕ) → get_or left 0 0 ≡ 0 → ((k : ℕ) → k ≤ n → get_or right k 0 ≡ 0) → ((k : ℕ) → k ≤ n → get_or kids k 0 ≡ 0) → Linked b n 0 up left right kids
 unfolding last_child tally

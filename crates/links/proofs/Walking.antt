@@ -12,9 +12,9 @@ use Rattle.leaders.proofs.Sheets.{Highest, Within, within_left, within_right, no
 use Rattle.leaders.proofs.Lengths.{drop_last_length}
 use Rattle.leaders.proofs.Counting.{sheet_lengths}
 use Rattle.links.specs.Links.{Top, last_child, Linked}
-use Rattle.links.specs.Walks.{top, Chain, turn, merge, node_brackets, Ready}
-use Rattle.leaders.specs.Sheet.{spines}
-use Rattle.links.proofs.Joins.{parent_is, highest_one, beaten_false}
+use Rattle.links.specs.Walks.{top, Chain, AtMost, turn, merge, walked, Sized, node_brackets, Ready}
+use Rattle.leaders.specs.Sheet.{spine_of, spines}
+use Rattle.links.proofs.Joins.{parent_is, highest_one, beaten_false, tally_most}
 
 -- the last child of x among the lots 1 to m
 pub record Last (b : ℕ → ℕ → Bool) (x m v : ℕ) : Type 0 where
@@ -196,3 +196,10 @@ ready_is b s n up left right kids h lk =
       long = total;
       short = sheet_short b s n total;
     }
+
+-- as many symbols of the walks as the words have are the words
+pub walked_words : (b : ℕ → ℕ → Bool) (n : ℕ) (left right kids sizes : List ℕ) → Ready b n left right kids → Sized b n n sizes → spread (walked b left right sizes) 1 n ≡ spines b n
+walked_words b n left right kids sizes r s = spread_same (walked b left right sizes) (spine_of b n) 1 n (λ k p q. let e = s k p (omega arith) in rw e (r.word k p (omega arith)))
+
+pub kids_most : (b : ℕ → ℕ → Bool) (n : ℕ) (up left right kids : List ℕ) → Linked b n n up left right kids → AtMost n kids
+kids_most b n up left right kids h k p = omega (arith, h.counts k p, tally_most (λ i. eqb (parent b i) k) 1 n)

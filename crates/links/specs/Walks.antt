@@ -21,6 +21,15 @@ AtMost n xs = (k : ℕ) → k ≤ n → slice_index xs k ≤ n
 abbrev pub Rises : ℕ → List ℕ → Type 0
 Rises n xs = (k : ℕ) → k ≤ n → (slice_index xs k ≡ 0) ⊎ (k < slice_index xs k)
 
+-- each lot below k hangs on a lower node
+abbrev pub Hangs : ℕ → List ℕ → Type 0
+Hangs k up = (m : ℕ) → 1 ≤ m → m < k → slice_index up m < m
+
+-- from node x up, where the test says no at the nodes `passed`, one comes to node parent; best is the last of them, or `last` where there is none
+abbrev pub Passes : List ℕ → (ℕ → Bool → Type 0) → ℕ → ℕ → List ℕ → ℕ → ℕ → Type 0
+Passes up says x last [] parent best = (x ≡ parent) × (last ≡ best)
+Passes up says x last (y ∷ ys) parent best = (x ≡ y) × (1 ≤ y) × says y false × Passes up says (slice_index up y) y ys parent best
+
 -- is the next of the two lots i and j the second
 abbrev pub turn : (ℕ → ℕ → Bool) → ℕ → ℕ → Bool
 turn b i j = i == 0 || (not (j == 0) && not (b i j))
@@ -29,6 +38,10 @@ turn b i j = i == 0 || (not (j == 0) && not (b i j))
 unfoldable pub merge : (ℕ → ℕ → Bool) → List ℕ → List ℕ → ℕ → ℕ → ℕ → List Bool
 merge b left right zero i j = []
 merge b left right (suc t) i j = cond (turn b i j) (true ∷ merge b left right t i (slice_index left j)) (false ∷ merge b left right t (slice_index right i) j)
+
+-- the symbols that the walks of lot k give, as many as its word has
+abbrev pub walked : (ℕ → ℕ → Bool) → List ℕ → List ℕ → List ℕ → ℕ → List Bool
+walked b left right sizes k = merge b left right (slice_index sizes k) (slice_index left k) (slice_index right k)
 
 -- the sizes of the lots' words
 abbrev pub Sized : (ℕ → ℕ → Bool) → ℕ → ℕ → List ℕ → Type 0

@@ -21,9 +21,6 @@ pub record Handed (n : ℕ) (next prices : List ℕ) (x t : ℕ) (zs : List ℕ)
 abbrev pub Hands : ℕ → List ℕ → ℕ → List ℕ → ℕ → ℕ → Type 0
 Hands n next first prices x t = (zs : List ℕ) → Chain next first zs → Lists n zs → Handed n next prices x t zs
 
-pub hand_none : (n : ℕ) (next prices : List ℕ) (x : ℕ) → Hands n next x prices x 0
-hand_none n next prices x zs c l = record { us = []; vs = zs; whole = refl; many = refl; chain = c; given = λ z p m. absurd m }
-
 place_at : (us : List ℕ) (z : ℕ) (vs : List ℕ) → count z us ≡ 0 → place (us ++ z ∷ vs) z ≡ length us
 unfolding place
 place_at [] z vs h = rw (eq-eqb z z refl)

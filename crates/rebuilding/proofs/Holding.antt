@@ -1,7 +1,7 @@
 -- The working numbers of linked lots and the bits of the sheet hold the tree of the order; so the prices along its merge order are the rebuilt ones.
-use Rattle.std.proofs.Common.{◌≡◌, ℕ, zero, suc, ◌+◌, ◌-◌, ◌*◌, ◌≤◌, min, Bool, true, ltb, List, [], ◌++◌, length, get_or, take, drop, set, sym, refl, ap, ◌∙◌, subst, inl, inr, append_assoc, arith, length-append, get_or-set_other, get_or-set_same}
-use Rattle.std.proofs.lemmas.Bool.{cond_both, cases_eq, both_ways, le-leb, ltb-true, ltb-false}
-use Rattle.std.proofs.lemmas.List.{take_at, drop_at, append-nil}
+use Rattle.std.proofs.Common.{◌≡◌, ℕ, zero, suc, ◌+◌, ◌-◌, ◌*◌, ◌≤◌, min, Bool, ltb, List, ◌++◌, length, get_or, take, drop, set, sym, refl, ap, ◌∙◌, subst, inl, inr, append_assoc, arith, length-append, get_or-set_other}
+use Rattle.std.proofs.lemmas.Bool.{cond_both, both_ways, ltb-true, ltb-false}
+use Rattle.std.proofs.lemmas.List.{take_at, drop_at}
 use Rattle.leaders.specs.Order.{Strict}
 use Rattle.leaders.specs.Sheet.{spread, brackets, drop_last, spine_of, spines, sheet}
 use Rattle.leaders.specs.Tree.{Tree, leaf, node, size, Wellformed, root, Follows, list_of}
@@ -12,29 +12,14 @@ use Rattle.leaders.proofs.Listing.{list_here}
 use Rattle.leaders.proofs.Merging.{merge_is, list_length}
 use Rattle.leaders.proofs.Counting.{sheet_lengths}
 use Rattle.links.specs.Links.{Linked, last_child}
-use Rattle.links.specs.Walks.{top, Chain, AtMost}
+use Rattle.links.specs.Walks.{top, Chain}
 use Rattle.links.proofs.Joins.{parent_is}
+use Rattle.links.proofs.Loops.{spread_parts, spread_last}
 use Rattle.links.proofs.Walking.{Last, last_is, last_one, parent_root, left_is, right_is}
-use Rattle.linking.specs.Linking.{Starts, Tame}
+use Rattle.linking.specs.Linking.{Starts}
 use Rattle.rebuilding.specs.Held.{end_of_word, word_at, Holds}
-use Rattle.rebuilding.specs.Rebuilding.{enough}
 use Rattle.rebuilding.specs.Prices.{Lists, Prices}
 use Rattle.rebuilding.proofs.Sides.{once}
-
-spread_parts : (f : ℕ → List Bool) (i m r : ℕ) → spread f i (m + r) ≡ spread f i m ++ spread f (i + m) r
-unfolding spread
-spread_parts f i zero r = let e : 0 + r ≡ r = omega arith in let d : i + 0 ≡ i = omega arith in rw (e, d)
-spread_parts f i (suc m) r =
-    let e : suc m + r ≡ suc (m + r) = omega arith in
-    let d : suc i + m ≡ i + suc m = omega arith in
-    rw e (ap (λ w. f i ++ w) (spread_parts f (suc i) m r ∙ ap (λ j. spread f (suc i) m ++ spread f j r) d) ∙ sym (append_assoc (f i) (spread f (suc i) m) (spread f (i + suc m) r)))
-
-spread_last : (f : ℕ → List Bool) (m : ℕ) → spread f 1 (suc m) ≡ spread f 1 m ++ f (suc m)
-unfolding spread
-spread_last f m =
-    let e : suc m ≡ m + 1 = omega arith in
-    let d : 1 + m ≡ suc m = omega arith in
-    ap (spread f 1) e ∙ spread_parts f 1 m 1 ∙ ap (λ j. spread f 1 m ++ (f j ++ [])) d ∙ ap (λ w. spread f 1 m ++ w) (append-nil (f (suc m)))
 
 module _ (b : ℕ → ℕ → Bool) (s : Strict b) (n : ℕ) (bits : List Bool) (e : sheet b n ≡ bits) (starts : List ℕ) (at : Starts b n n starts) where
   -- the bits up to the word of lot m, and with it
@@ -117,17 +102,7 @@ module _ (b : ℕ → ℕ → Bool) (s : Strict b) (n : ℕ) (bits : List Bool) 
 pub linked_first : (b : ℕ → ℕ → Bool) (n v : ℕ) (up left right kids : List ℕ) → Linked b n n up left right kids → Linked b n n (set up 0 v) left right kids
 linked_first b n v up left right kids h = record { parents = λ k p q. get_or-set_other up 0 k v 0 (omega arith) ∙ h.parents k p q; first = h.first; lefts = h.lefts; rights = h.rights; counts = h.counts }
 
--- the numbers after the links: node 0 hangs on none
-pub hangs_most : (n : ℕ) (up left right : List ℕ) → length up ≡ suc n → Tame n up left right → AtMost n (set up 0 0)
-hangs_most n up left right long h k p = elim (cases_eq k 0) [
-  | inl z ↦ rw z (omega (arith, get_or-set_same up 0 0 0 (omega arith)))
-  | inr z ↦ omega (arith, get_or-set_other up 0 k 0 0 z, h.hangs k (omega arith) p)
-]
-
 -- a sheet of n lots has at least 2n + 2 bits
 pub sheet_least : (b : ℕ → ℕ → Bool) → Strict b → (n : ℕ) → 2 * n + 2 ≤ length (sheet b n)
 unfolding sheet
 sheet_least b s n = omega (arith, length-append (brackets b n) (spines b n), (sheet_lengths b s n).of_brackets)
-
-pub enough_is : (n prices work : ℕ) → n ≤ prices → 4 * suc n ≤ work → true ≡ enough n prices work
-enough_is n prices work p q = rw (le-leb n prices p, le-leb (4 * suc n) work q)

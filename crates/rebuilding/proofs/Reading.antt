@@ -1,6 +1,5 @@
 -- The bits of a part of the tape, one after another.
-use Rattle.std.proofs.Common.{◌≡◌, ℕ, zero, suc, ◌+◌, ◌<◌, ◌≤◌, Bool, List, [], ◌∷◌, length, take, drop, sym, ap, add-one, arith, length-take}
-use Rattle.std.proofs.lemmas.List.{drop_all}
+use Rattle.std.proofs.Common.{◌≡◌, ℕ, zero, suc, ◌+◌, ◌<◌, ◌≤◌, Bool, List, [], ◌∷◌, length, take, drop, sym, ap, add-one, arith}
 use Rattle.bits.proofs.Bitlists.{set_at}
 
 pub drop_bit : (bs : List Bool) (p e : ℕ) (b : Bool) → p < e → e ≤ length bs → b ≡ set_at bs p → drop p (take e bs) ≡ b ∷ drop (p + 1) (take e bs)
@@ -11,6 +10,3 @@ drop_bit bs p e b h k i = rw add-one (go bs p e h k i)
     go [] p (suc e) h k i = absurd (omega arith)
     go (x ∷ bs) zero (suc e) h k i = ap (λ z. z ∷ take e bs) (sym i)
     go (x ∷ bs) (suc p) (suc e) h k i = go bs p e (omega arith) (omega arith) i
-
-pub drop_done : (bs : List Bool) (p e : ℕ) → e ≤ p → drop p (take e bs) ≡ []
-drop_done bs p e h = drop_all p (take e bs) (omega (arith, length-take e bs))

@@ -1,10 +1,10 @@
 -- How one symbol of a lot's word hangs the next lots of its sides, and how the rest is hung.
 use Rattle.std.proofs.Common.{◌≡◌, ℕ, suc, ◌+◌, ◌<◌, ◌≤◌, Bool, true, false, eqb, ◌≢◌, ◌⊎◌, List, [], ◌∷◌, ◌++◌, length, get_or, set, sym, refl, ap, ◌∙◌, subst, inl, inr, append_assoc, arith, length-append, get_or-set_other, get_or-set_same}
-use Rattle.std.proofs.lemmas.Bool.{cases_eq, cases_Bool, eqb-false, eq-eqb, ne_eqb}
+use Rattle.std.proofs.lemmas.Bool.{cases_Bool, eqb-false, eq-eqb, ne_eqb}
 use Rattle.std.proofs.lemmas.List.{length-set}
 use Rattle.leaders.specs.Verdict.{falses, trues}
 use Rattle.leaders.specs.Rebuilt.{through, past, blend}
-use Rattle.links.specs.Walks.{Chain, AtMost}
+use Rattle.links.specs.Walks.{Chain}
 use Rattle.rebuilding.specs.Splices.{Runs, count, Along, EndsIn, Joining, Joined}
 
 pub count_append : (z : ℕ) (xs ys : List ℕ) → count z (xs ++ ys) ≡ count z xs + count z ys
@@ -241,12 +241,6 @@ module _ (next₀ next : List ℕ) (x : ℕ) (all : List ℕ) (t b endR : ℕ) (
       go [] c l whole = absurd (d c)
       go (y ∷ ys) c (us, e) whole = record { chain = chain_end; ends = ends_from all (h.pre ++ t ∷ us) endR (sym whole ∙ ap (λ zs. h.pre ++ t ∷ zs) e ∙ sym (append_assoc h.pre (t ∷ us) (endR ∷ []))); frame = frame_end }
 
-pub most_set : (n : ℕ) (next : List ℕ) (t v : ℕ) → t < length next → v ≤ n → AtMost n next → AtMost n (set next t v)
-most_set n next t v h p f k q = elim (cases_eq k t) [
-  | inl e ↦ let g = get_or-set_same next t v 0 h in rw (e, g) p
-  | inr e ↦ let g = get_or-set_other next t k v 0 e in rw g (f k q)
-]
-
 -- what is left of the left side hangs on tail, if there is any
 abbrev pub HangWay : List ℕ → List ℕ → ℕ → ℕ → ℕ → ℕ → Type 0
 HangWay next next2 tail last2 a end_l = ((a ≢ 0) × (next2 ≡ set next tail a) × (last2 ≡ end_l)) ⊎ ((a ≡ 0) × (next2 ≡ next) × (last2 ≡ tail))
@@ -256,27 +250,17 @@ hung_is : (next₀ next next2 left right : List ℕ) (x : ℕ) (all : List ℕ) 
 hung_is next₀ next next2 left right x all tail last2 a b low high end_l endR fits (inl (d, e, f)) j = rw (e, f) (hang_left next₀ next left right x all tail a b low high end_l endR j d fits)
 hung_is next₀ next next2 left right x all tail last2 a b low high end_l endR fits (inr (d, e, f)) j = rw (e, f) (hang_none next₀ next left right x all tail a b low high end_l endR j d)
 
-hung_most : (n : ℕ) (next next2 : List ℕ) (tail last2 a end_l : ℕ) → length next ≡ suc n → tail ≤ n → a ≤ n → end_l ≤ n → AtMost n next → HangWay next next2 tail last2 a end_l → AtMost n next2 × (last2 ≤ n) × (length next2 ≡ suc n)
-hung_most n next next2 tail last2 a end_l l p q r f (inl (d, e, g)) = (subst (AtMost n) (sym e) (most_set n next tail a (omega arith) q f), omega arith, ap length e ∙ length-set next tail a ∙ l)
-hung_most n next next2 tail last2 a end_l l p q r f (inr (d, e, g)) = (subst (AtMost n) (sym e) f, omega arith, ap length e ∙ l)
-
 -- what is left of both sides hangs
-pub record Closed (n : ℕ) (next next2 : List ℕ) (tail last2 a b end_l endR : ℕ) : Type 0 where
-  pub nexts : AtMost n (set next2 last2 b)
-  pub lasts : last2 ≤ n
-  pub upper : b ≢ 0 → (next₀ left right : List ℕ) (x : ℕ) (all : List ℕ) (low high : ℕ) → Joining next₀ next left right x [] all tail a b low high end_l endR → Joined next₀ (set next2 last2 b) x all endR
-  pub none : b ≡ 0 → (next₀ left right : List ℕ) (x : ℕ) (all : List ℕ) (low high : ℕ) → Joining next₀ next left right x [] all tail a b low high end_l endR → Joined next₀ (set next2 last2 b) x all last2
+module _ (n : ℕ) (next next2 : List ℕ) (tail last2 a b end_l endR : ℕ) (long : length next ≡ suc n) (p : tail ≤ n) (q : end_l ≤ n) (way : HangWay next next2 tail last2 a end_l) where
+  fits : last2 < length next2
+  fits = elim way [ inl (d, e, f) ↦ omega (arith, ap length e, length-set next tail a) | inr (d, e, f) ↦ omega (arith, ap length e) ]
 
-pub closed : (n : ℕ) (next next2 : List ℕ) (tail last2 a b end_l endR : ℕ) → length next ≡ suc n → tail ≤ n → a ≤ n → b ≤ n → end_l ≤ n → AtMost n next → HangWay next next2 tail last2 a end_l → Closed n next next2 tail last2 a b end_l endR
-closed n next next2 tail last2 a b end_l endR long p q r e f way =
-    let most = hung_most n next next2 tail last2 a end_l long p q e f way in
-    let fits : last2 < length next2 = omega (arith, most.1, most.2) in
-    record {
-      nexts = most_set n next2 last2 b fits r most.0;
-      lasts = most.1;
-      upper = λ d next₀ left right x all low high j. end_right next₀ next2 x all last2 b endR (hung_is next₀ next next2 left right x all tail last2 a b low high end_l endR (omega arith) way j) fits d;
-      none = λ d next₀ left right x all low high j. end_none next₀ next2 x all last2 b endR (hung_is next₀ next next2 left right x all tail last2 a b low high end_l endR (omega arith) way j) fits d;
-    }
+  module _ (next₀ left right : List ℕ) (x : ℕ) (all : List ℕ) (low high : ℕ) (j : Joining next₀ next left right x [] all tail a b low high end_l endR) where
+    pub closed_right : b ≢ 0 → Joined next₀ (set next2 last2 b) x all endR
+    closed_right d = end_right next₀ next2 x all last2 b endR (hung_is next₀ next next2 left right x all tail last2 a b low high end_l endR (omega arith) way j) fits d
+
+    pub closed_none : b ≡ 0 → Joined next₀ (set next2 last2 b) x all last2
+    closed_none d = end_none next₀ next2 x all last2 b endR (hung_is next₀ next next2 left right x all tail last2 a b low high end_l endR (omega arith) way j) fits d
 
 chain_none : (next : List ℕ) (i : ℕ) (zs : List ℕ) → Chain next i zs → 0 ≡ length zs → i ≡ 0
 chain_none next i [] c e = c

@@ -8,8 +8,10 @@ ghost use Rattle.leaders.specs.Rebuilt.{rebuilt};
 ghost use Rattle.rebuilding.specs.Rebuilding.{enough, Declined, Written};
 
 use bits::tape::Tape;
+use joining::{Order, Parts, Seam, TapeWords};
 use linking::link_sheet;
-use links::zero;
+use links::Links;
+use links::sides::Sides;
 
 mod joining;
 mod pricing;
@@ -19,19 +21,39 @@ mod pricing;
 pub struct FewNumbers;
 
 /// Rebuilds with exactly the prices and the working numbers that it takes.
-fn rebuild_in<T: Tape>(tape: &T, n: usize, prices: &mut [u32], work: &mut [u32])
-    requires few { n ≤ 16383 }
-    requires numbers { (length prices.old ≡ n) × (length work.old ≡ 4 * (n + 1)) }
-    ensures { (b : ℕ → ℕ → Bool) → Strict b → sheet b n ≡ T.Tape.bits tape.now → prices.new ≡ rebuilt b n }
+fn rebuild_in<T: Tape>(tape: &T, prices: &mut [u32], work: &mut [u32])
+    requires few { length prices.old ≤ 16383 }
+    requires numbers { length work.old ≡ 4 * (length prices.old + 1) }
+    ensures { (b : ℕ → ℕ → Bool) → Strict b → sheet b (length prices.old) ≡ T.Tape.bits tape.now → prices.new ≡ rebuilt b (length prices.old) }
 {
-    let (up, others) = work.split_at_mut(n + 1);
-    let (left, more) = others.split_at_mut(n + 1);
-    let (right, next) = more.split_at_mut(n + 1);
-    link_sheet(tape, n, up, left, right, next, prices);
-    up[0] = 0;
-    zero(next);
-    joining::join_all(tape, next, up, left, right, prices, n);
-    pricing::hand_out(prices, next, right[0], n);
+    let mut links = Links::over(work, prices.len());
+    link_sheet(tape, &mut links, prices);
+    let Links {
+        n,
+        up: ends,
+        left,
+        right,
+        kids: next,
+    } = links;
+    // Node 0 is the root, which hangs on none.
+    ends[0] = 0;
+    next.fill(0);
+    let sides = Sides { n, left, right };
+    let mut parts = Parts {
+        order: Order {
+            sides,
+            next,
+            seam: Seam::default(),
+        },
+        ends,
+        words: TapeWords {
+            tape,
+            starts: prices,
+        },
+    };
+    parts.join_all();
+    let Parts { order, .. } = parts;
+    pricing::hand_out(prices, &order, sides.right[0]);
 }
 
 /// Writes the prices that the merge order of the sheet on the tape defines, for `lots` lots.
@@ -55,6 +77,6 @@ pub fn rebuild_prices<T: Tape>(
     if tape.len() / 2 <= n {
         return Ok(());
     }
-    rebuild_in(tape, n, &mut prices[0..n], &mut work[0..4 * (n + 1)]);
+    rebuild_in(tape, &mut prices[0..n], &mut work[0..4 * (n + 1)]);
     Ok(())
 }

@@ -1,21 +1,20 @@
-use Rattle.std.proofs.Common.{arith}
+use Rattle.std.proofs.Common.{◌+◌, arith}
 use Rattle.leaders.specs.Sheet.{spread, spine_of}
 use Rattle.linking.proofs.Words.{words_more, starts_more}
 use Rattle.linking.proofs.place_words.Goals as goal
 
-pub loop-k-init : goal.loop-k-init
+pub loop-i-init : goal.loop-i-init
 unfolding spread
-loop-k-init c = (omega arith, λ b h. (λ k p q. absurd (omega arith), omega arith))
+loop-i-init c = record { few = omega arith; ready = λ b h. (λ k p q. absurd (omega arith), omega arith) }
 
-pub loop-k-preserved : goal.loop-k-preserved
-loop-k-preserved c =
-    let k = c.loop-k.k in
-    let n = c.args.n in (
-      omega (arith, c.saturating_sub-at.ensures, c.steps.ensures.few, c.requires.kids k (omega arith), c.loop-k.invariant.0),
-      λ b h.
-          let (xs, chain, e) = h.chain k c.loop-k.auto.k (omega arith) in
-          let i = c.loop-k.invariant.1 b h in (
-            starts_more b n k c.loop-k.at c.loop-k.starts c.loop-k.auto.k (omega (arith, c.loop-k.auto.starts, c.requires.lengths.0)) i.1 i.0,
-            omega (arith, c.saturating_sub-at.ensures, c.steps.ensures.chain xs chain, e, i.1, words_more (spine_of b n) k c.loop-k.auto.k),
-          ),
-    )
+pub loop-i-preserved : goal.loop-i-preserved
+loop-i-preserved c =
+    let i = c.loop-i.i in
+    record {
+      few = omega (arith, c.size-size.ensures.few, c.loop-i.invariant.few);
+      ready = λ b h.
+          let n = c.args.words.sides.n in
+          let (xs, chain, e) = h.chain (i + 1) (omega arith) (omega arith) in
+          let z = c.loop-i.invariant.ready b h in
+          (starts_more b n i c.loop-i.at c.loop-i.starts (omega arith) z.1 z.0, omega (arith, c.size-size.ensures.chain xs chain, e, z.1, words_more (spine_of b n) i));
+    }

@@ -1,6 +1,6 @@
-use Rattle.std.proofs.Common.{◌≤◌}
+use Rattle.std.proofs.Common.{◌+◌, ◌-◌, ◌≤◌}
 use Rattle.rebuilding.proofs.Handing.{Hands}
 use Rattle.rebuilding.proofs.pricing.hand_out.Given as goal
 
-abbrev pub invariant-loop-t : goal.invariant-loop-t
-invariant-loop-t l = (l.x ≤ l.n) × Hands l.n l.next l.initial.x l.prices l.x l.t
+abbrev pub invariant-loop-price : goal.invariant-loop-price
+invariant-loop-price l = let n = l.order.sides.n in (l.x ≤ n) × Hands n l.order.next.now l.initial.x l.prices l.x (n + 1 - l.price)
