@@ -9,6 +9,7 @@ ghost use Rattle.panel.specs.Shows.{told};
 use shown::Shown;
 
 pub mod digit_panel;
+pub mod face_panel;
 pub mod kept;
 pub mod line_panel;
 mod numeral;
