@@ -2,7 +2,7 @@
 use Rattle.std.proofs.Common.{◌≡◌, ℕ, suc, ◌+◌, ◌-◌, ◌*◌, ◌≤◌, Bool, true, false, cond, ltb, List, [], ◌∷◌, ◌++◌, length, drop, IfOk, Some, None, Ok, Err, Option, Result, sym, refl, ap, ◌∙◌, subst, arith}
 use Rattle.std.proofs.lemmas.List.{append_assoc, append-nil, drop-drop}
 use Rattle.std.proofs.lemmas.Result.{IfOk-weaker}
-use Rattle.bits.specs.Punching.{letters, letter_room}
+use Rattle.bits.specs.Punching.{letter_room}
 use Rattle.leaders.specs.Order.{Strict, beats}
 use Rattle.leaders.specs.Refusal.{Refusal, refusal}
 use Rattle.leaders.specs.Verdict.{verdict, judged, closes}
@@ -11,7 +11,7 @@ use Rattle.book.specs.Entries.{Entry, entry, room_for, sheet_of}
 use Rattle.board.specs.Pages.{lots_by, page_reply, page_shows, Knows}
 use Rattle.board.proofs.Sittings.{knows_sheet}
 use Rattle.panel.specs.declared.shown.Shown.{Shown}
-use Rattle.commands.specs.Texts.{parted, lines, FirstLine}
+use Rattle.commands.specs.Texts.{lines, FirstLine}
 use Rattle.replies.specs.Replies.{refused_line, pair_line, cast_line, page_line}
 use Rattle.hall.specs.Halls.{Terms, terms, program_terms, Hall, hall, book_turn, cast_shown, shown_bits, cast_turn, page_of, line_turn, replies, Stands, Turned, Next}
 
@@ -91,22 +91,22 @@ program_terms_lem make at_least arity m text w p q r =
     ap (λ z. terms make at_least arity z (letter_room text) w) most ∙ ap (λ z. terms make at_least arity 4000 z w) room ∙ ap (λ z. terms make at_least arity 4000 14000 z) r
 
 -- a new hall
-pub session_start : {K : Type 0} (at_least : K → K → Bool) (t : Terms K) (ks : List K) (text : List ℕ) (count : ℕ) (out rest : List ℕ) → ks ≡ [] → count ≡ 0 → out ≡ [] →
-    (shown : Option (List K)) × (Stands at_least shown (letters text count) × (out ++ replies t (hall ks shown) (lines rest) ≡ replies t (hall [] None) (lines rest)))
-session_start at_least t ks text count out rest k n o = (
+pub session_start : {K : Type 0} (at_least : K → K → Bool) (t : Terms K) (ks : List K) (bits : List Bool) (out : List ℕ) (left : List (List ℕ)) → ks ≡ [] → bits ≡ [] → out ≡ [] →
+    (shown : Option (List K)) × (Stands at_least shown bits × (out ++ replies t (hall ks shown) left ≡ replies t (hall [] None) left))
+session_start at_least t ks bits out left k n o = (
   None,
   (
-    record { sheet_is = ap (letters text) (sym n); few = λ zs e. absurd (let z : ◌≡◌ {A = ℕ} 0 1 = cc in omega arith) },
-    ap (λ z. z ++ replies t (hall ks None) (lines rest)) o ∙ ap (λ z. replies t (hall z None) (lines rest)) k,
+    record { sheet_is = sym n; few = λ zs e. absurd cc },
+    ap (λ z. z ++ replies t (hall ks None) left) o ∙ ap (λ z. replies t (hall z None) left) k,
   ),
 )
 
 -- one line more of the replies
 module _ {K : Type 0} (at_least : K → K → Bool) (t : Terms K) (all : List ℕ) where
-  pub session_more : (ks ls : List K) (shown : Option (List K)) (bits : List Bool) (before after text bytes rest : List ℕ) → FirstLine text bytes rest → Turned at_least (line_turn t (hall ks shown) bytes) ls bits → after ≡ before ++ (line_turn t (hall ks shown) bytes).reply → before ++ replies t (hall ks shown) (lines text) ≡ all →
+  line_more : (ks ls : List K) (shown : Option (List K)) (bits : List Bool) (before after text bytes rest : List ℕ) → Turned at_least (line_turn t (hall ks shown) bytes) ls bits → after ≡ before ++ (line_turn t (hall ks shown) bytes).reply →
+      replies t (hall ks shown) (lines text) ≡ (line_turn t (hall ks shown) bytes).reply ++ replies t (line_turn t (hall ks shown) bytes).after (lines rest) → before ++ replies t (hall ks shown) (lines text) ≡ all →
       (new : Option (List K)) × (Stands at_least new bits × (after ++ replies t (hall ls new) (lines rest) ≡ all))
-  unfolding replies
-  session_more ks ls shown bits before after text bytes rest first w said inv =
+  line_more ks ls shown bits before after text bytes rest w said owed inv =
       let n = line_turn t (hall ks shown) bytes in (
         n.after.shown,
         (
@@ -114,28 +114,24 @@ module _ {K : Type 0} (at_least : K → K → Bool) (t : Terms K) (all : List �
           ap (λ z. z ++ replies t (hall ls n.after.shown) (lines rest)) said
               ∙ ap (λ z. (before ++ n.reply) ++ replies t (hall z n.after.shown) (lines rest)) w.lots_are
               ∙ append_assoc before n.reply (replies t n.after (lines rest))
-              ∙ ap (λ z. before ++ replies t (hall ks shown) z) (sym first.lines_are)
+              ∙ ap (λ z. before ++ z) (sym owed)
               ∙ inv,
         ),
       )
+
+  pub session_more : (ks ls : List K) (shown : Option (List K)) (bits : List Bool) (before after text bytes rest : List ℕ) → FirstLine text bytes rest → Turned at_least (line_turn t (hall ks shown) bytes) ls bits → after ≡ before ++ (line_turn t (hall ks shown) bytes).reply → before ++ replies t (hall ks shown) (lines text) ≡ all →
+      (new : Option (List K)) × (Stands at_least new bits × (after ++ replies t (hall ls new) (lines rest) ≡ all))
+  unfolding replies
+  session_more ks ls shown bits before after text bytes rest first w said inv =
+      line_more ks ls shown bits before after text bytes rest w said (ap (replies t (hall ks shown)) first.lines_are) inv
 
 -- the same of a line that has had its turn, and the end
 module _ {K : Type 0} (t : Terms K) (all : List ℕ) where
   pub next_more : (ks ls : List K) (shown : Option (List K)) (bits : List Bool) (before after text rest : List ℕ) → Next t (hall ks shown) text rest ls bits before after → before ++ replies t (hall ks shown) (lines text) ≡ all →
       (new : Option (List K)) × (Stands t.at_least new bits × (after ++ replies t (hall ls new) (lines rest) ≡ all))
   next_more ks ls shown bits before after text rest next inv =
-      let n = line_turn t (hall ks shown) next.line in (
-        n.after.shown,
-        (
-          next.turned.stands,
-          ap (λ z. z ++ replies t (hall ls n.after.shown) (lines rest)) next.replied
-              ∙ ap (λ z. (before ++ n.reply) ++ replies t (hall z n.after.shown) (lines rest)) next.turned.lots_are
-              ∙ append_assoc before n.reply (replies t n.after (lines rest))
-              ∙ ap (λ z. before ++ z) (sym next.owed)
-              ∙ inv,
-        ),
-      )
+      line_more t.at_least t all ks ls shown bits before after text next.line rest next.turned next.replied next.owed inv
 
-  pub session_all : (h : Hall K) (out text : List ℕ) → text ≡ [] → out ++ replies t h (lines text) ≡ all → out ≡ all
-  unfolding replies parted
-  session_all h out text none inv = sym (append-nil out) ∙ ap (λ z. out ++ replies t h (lines z)) (sym none) ∙ inv
+  pub session_all : (h : Hall K) (out : List ℕ) (left : List (List ℕ)) → left ≡ [] → out ++ replies t h left ≡ all → out ≡ all
+  unfolding replies
+  session_all h out left none inv = sym (append-nil out) ∙ ap (λ z. out ++ replies t h z) (sym none) ∙ inv

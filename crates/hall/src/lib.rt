@@ -2,5 +2,6 @@
 #![tactic(auto)]
 
 pub mod answer;
+pub mod hall;
 pub mod program;
 pub mod session;
