@@ -1,6 +1,6 @@
 //! A hall: a book, a punch and working numbers, over memory that is lent.
 
-ghost use Rattle.std.specs.Prelude.{◌≡◌, [], length};
+ghost use Rattle.std.specs.Prelude.{◌≡◌, [], length, IfOk};
 ghost use Rattle.bits.specs.Punching.{letter_room};
 ghost use Rattle.book.specs.Entries.{room_for};
 ghost use Rattle.hall.specs.Halls.{terms};
@@ -9,6 +9,7 @@ ghost use Rattle.hall.specs.States.{lots_in, bits_in, terms_in};
 use bits::punch::LetteredPunch;
 use book::book::Book;
 use keys::key::Key;
+use std::alloc::{AllocError, Global};
 
 /// The places of the book, the bits of the punch, and the working numbers that 4,000 lots need.
 pub const PLACES: usize = 4_000;
@@ -43,5 +44,39 @@ impl<'a, K: Key + Copy> Hall<'a, K> {
             punch: LetteredPunch::new(text),
             work,
         }
+    }
+}
+
+/// The memory of a hall program.
+#[derive(Drop)]
+pub(crate) struct Room<K> {
+    places: Vec<K>,
+    letters: Vec<u8>,
+    work: Vec<u32>,
+}
+
+impl<K: Key + Copy + Clone> Room<K> {
+    /// Room for 4,000 lots; `blank` fills the places that have no lot.
+    pub(crate) fn new(blank: K, heap: Global) -> Result<Room<K>, AllocError>
+        ensures { IfOk result (λ r. (length r.places.items ≡ 4000) × (length r.letters.items ≡ 14000) × (length r.work.items ≡ 16004)) }
+    {
+        Ok(Room {
+            places: vec![in heap; blank; PLACES]?,
+            letters: vec![in heap; b' '; BITS]?,
+            work: vec![in heap; 0u32; NUMBERS]?,
+        })
+    }
+
+    /// A new hall over this room.
+    pub(crate) fn hall(&mut self) -> Hall<'_, K>
+        ensures lots { lots_in result ≡ [] }
+        ensures bits { bits_in result ≡ [] }
+        ensures terms { terms_in K.Key.made K.Key.at_least K.Key.arity result ≡ terms K.Key.made K.Key.at_least K.Key.arity (room_for (length self.old.places.items)) (letter_room self.old.letters.items) (length self.old.work.items) }
+    {
+        Hall::new(
+            &mut self.places[..],
+            &mut self.letters[..],
+            &mut self.work[..],
+        )
     }
 }

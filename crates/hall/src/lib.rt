@@ -5,3 +5,5 @@ pub mod answer;
 pub mod hall;
 pub mod program;
 pub mod session;
+#[cfg(test)]
+mod tests;

@@ -1,6 +1,6 @@
 //! A hall program: standard input answered on standard output.
 
-use crate::hall::{BITS, Hall, MOST, NUMBERS, PLACES};
+use crate::hall::{MOST, Room};
 use commands::line::Lines;
 use keys::key::Key;
 use std::io::{Read, Write};
@@ -9,10 +9,8 @@ use std::io::{Read, Write};
 pub fn run<K: Key + Copy + Clone>(rt: &HostRuntime, blank: K) -> anyhow::Result<()> {
     let mut input = Vec::new(rt.alloc());
     rt.stdin().take(MOST as u64).read_to_end(&mut input)?;
-    let mut places = vec![in rt.alloc(); blank; PLACES]?;
-    let mut letters = vec![in rt.alloc(); b' '; BITS]?;
-    let mut work = vec![in rt.alloc(); 0u32; NUMBERS]?;
-    let mut hall = Hall::new(&mut places[..], &mut letters[..], &mut work[..]);
+    let mut room = Room::new(blank, rt.alloc())?;
+    let mut hall = room.hall();
     let mut reply = Vec::new(rt.alloc());
     for line in Lines::new(&input[..]) {
         hall.answer(line, &mut reply)?;

@@ -4,7 +4,7 @@ ghost use Rattle.std.specs.Prelude.{◌≡◌, ◌<◌, List, [], length, IfOk, 
 ghost use Rattle.hall.specs.Halls.{program_terms, hall, all_replies, Stands, FirstNext};
 ghost use Rattle.hall.specs.States.{lots_in, bits_in, terms_in, Kept};
 
-use crate::hall::{BITS, Hall, MOST, NUMBERS, PLACES};
+use crate::hall::{Hall, MOST, Room};
 use commands::line::{Lines, first_line};
 use keys::key::Key;
 use std::alloc::{AllocError, Global};
@@ -37,10 +37,8 @@ pub fn session<K: Key + Copy + Clone>(
 ) -> Result<Vec<u8>, AllocError>
     ensures { IfOk result (λ out. out.items ≡ all_replies (program_terms K.Key.made K.Key.at_least K.Key.arity) input.now) }
 {
-    let mut places = vec![in heap; blank; PLACES]?;
-    let mut letters = vec![in heap; b' '; BITS]?;
-    let mut work = vec![in heap; 0u32; NUMBERS]?;
-    let mut hall = Hall::new(&mut places[..], &mut letters[..], &mut work[..]);
+    let mut room = Room::new(blank, heap)?;
+    let mut hall = room.hall();
     let mut out = Vec::new(heap);
     for line in Lines::new(&input[..input.len().min(MOST)]) {
         hall.answer(line, &mut out)?;

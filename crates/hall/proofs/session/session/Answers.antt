@@ -10,9 +10,9 @@ use Rattle.hall.proofs.session.session.Goals as goal
 
 pub loop-line-init : goal.loop-line-init
 loop-line-init g c =
-    let new = c.new-hall.result in
+    let new = c.hall-hall.result in
     let t = terms_in g.K.Key.made g.K.Key.at_least g.K.Key.arity new in
-    (refl, session_start g.K.Key.at_least t (lots_in new) (bits_in new) (vec_items c.new-out.result) _ c.new-hall.ensures.lots c.new-hall.ensures.bits c.new-out.ensures.items)
+    (refl, session_start g.K.Key.at_least t (lots_in new) (bits_in new) (vec_items c.new-out.result) _ c.hall-hall.ensures.lots c.hall-hall.ensures.bits c.new-out.ensures.items)
 
 pub loop-line-preserved : goal.loop-line-preserved
 unfolding replies
@@ -33,7 +33,7 @@ loop-line-preserved g c =
       owed = ap (replies u (hall (lots_in now) shown)) c.in-Some.ensures.steps;
     } in (
       terms_kept g.K.Key.made g.K.Key.at_least g.K.Key.arity now after said.kept ∙ inv.0,
-      next_more (terms_in g.K.Key.made g.K.Key.at_least g.K.Key.arity c.new-hall.result) _ (lots_in now) (lots_in after) shown (bits_in after) (vec_items c.loop-line.out) (vec_items c.answer.new.out) text rest
+      next_more (terms_in g.K.Key.made g.K.Key.at_least g.K.Key.arity c.hall-hall.result) _ (lots_in now) (lots_in after) shown (bits_in after) (vec_items c.loop-line.out) (vec_items c.answer.new.out) text rest
           (subst (λ (z : Terms _). Next z (hall (lots_in now) shown) text rest (lots_in after) (bits_in after) (vec_items c.loop-line.out) (vec_items c.answer.new.out)) inv.0 next) inv.1.1.1,
     )
 
@@ -41,12 +41,11 @@ pub returns : goal.returns
 returns g c =
     let inv = c.loop-line.invariant in
     let input = c.args.input.now in
-    let t = terms_in g.K.Key.made g.K.Key.at_least g.K.Key.arity c.new-hall.result in
-    let places = c.deref_mut.ensures.len ∙ c.in_ok-places.ensures.len in
-    let letters = c.deref_mut-2.ensures.len ∙ c.in_ok-letters.ensures.len in
-    let work = c.deref_mut-3.ensures.len ∙ c.in_ok-work.ensures.len in
+    let t = terms_in g.K.Key.made g.K.Key.at_least g.K.Key.arity c.hall-hall.result in
+    let room = c.in_ok-room.room in
+    let sizes = c.in_ok-room.ensures in
     let same : t ≡ program_terms g.K.Key.made g.K.Key.at_least g.K.Key.arity =
-    c.new-hall.ensures.terms ∙ program_terms_lem g.K.Key.made g.K.Key.at_least g.K.Key.arity _ c.deref_mut-2.result.now _ places letters work in
+    c.hall-hall.ensures.terms ∙ program_terms_lem g.K.Key.made g.K.Key.at_least g.K.Key.arity (length (vec_items room.places)) (vec_items room.letters) (length (vec_items room.work)) sizes.0 sizes.1 sizes.2 in
     let m : c.min.result ≡ length (take 65536 input) = omega (arith, length-take 65536 input) in
     session_all t _ (hall (lots_in c.loop-line.hall) inv.1.0) (vec_items c.loop-line.out) _ c.in-None.ensures.steps.0 inv.1.1.1
     ∙ ap (λ (z : Lines). replies t (hall [] None) (lines z.rest.now)) c.into_iter-line-iterator.ensures.into_iter_gives
