@@ -19,10 +19,8 @@ pub(crate) fn write(cells: &mut [u8], end: usize, n: u32, glyphs: &[u8; 10])
     requires within { end ≤ length cells.old }
     ensures { cells.new ≡ inked cells.old end (numeral glyphs.now n) }
 {
-    let mut at = end;
     let mut left = n;
-    while left > 0 {
-        at -= 1;
+    for at in (end - width(n)..end).rev() {
         cells[at] = glyphs[(left % 10) as usize];
         left /= 10;
     }
