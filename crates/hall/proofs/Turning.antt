@@ -10,9 +10,8 @@ use Rattle.casting.specs.Casts.{Casting, casting, cast_sheet}
 use Rattle.book.specs.Entries.{Entry, entry, room_for, sheet_of}
 use Rattle.board.specs.Pages.{lots_by, page_reply, page_shows, Knows}
 use Rattle.board.proofs.Sittings.{knows_sheet}
-use Rattle.panel.specs.declared.shown.Shown.{Shown}
 use Rattle.commands.specs.Texts.{lines, FirstLine}
-use Rattle.replies.specs.Replies.{refused_line, pair_line, cast_line, page_line}
+use Rattle.replies.specs.Replies.{cast_line, page_line}
 use Rattle.hall.specs.Halls.{Terms, terms, program_terms, Hall, hall, book_turn, cast_shown, shown_bits, cast_turn, page_of, line_turn, replies, Stands, Turned, Next}
 
 -- the working numbers past a place stay where those past an earlier one do
@@ -51,22 +50,6 @@ module _ {K : Type 0} (at_least : K → K → Bool) (ks ls : List K) (shown : Op
     pub cast_replied : {T E : Type 0} (r : Result T E) (before after : List ℕ) → IfOk r (λ _. after ≡ before ++ cast_line (cast_sheet (sheet_of at_least ks) (length ks) room work bits)) → IfOk r (λ _. after ≡ before ++ cast_line (cast_sheet (sheet_of at_least ks) (length ks) room work (shown_bits at_least shown)))
     cast_replied r before after m = IfOk-weaker r _ _ (λ _ w. w ∙ ap (λ (z : Casting). before ++ cast_line z) cast_same) m
 
--- what a page on a board that has taken its tape replies, shown and refused
-module _ {T : Type 0} (bits_of : T → List Bool) (mine its : T) (same : its ≡ mine) (l : Option ℕ) (lots : l ≡ lots_by (verdict (bits_of mine))) (start size : ℕ) {A E : Type 0} (r : Result A E) (before after : List ℕ) where
-  pub page_good : (seen : Shown) → Ok tt ≡ page_reply l start size → ((b : ℕ → ℕ → Bool) → Knows b l (bits_of its) → seen ≡ page_shows b l start size) → IfOk r (λ _. after ≡ before ++ pair_line seen) →
-      (b : ℕ → ℕ → Bool) → Knows b (lots_by (verdict (bits_of mine))) (bits_of mine) → IfOk r (λ _. after ≡ before ++ page_line (page_reply (lots_by (verdict (bits_of mine))) start size) (page_shows b (lots_by (verdict (bits_of mine))) start size))
-  page_good seen said h m b k =
-      let here : Knows b (lots_by (verdict (bits_of mine))) (bits_of its) = subst (λ (x : T). Knows b (lots_by (verdict (bits_of mine))) (bits_of x)) (sym same) k in
-      let known : Knows b l (bits_of its) = subst (λ (z : Option ℕ). Knows b z (bits_of its)) (sym lots) here in
-      IfOk-weaker r (λ _. after ≡ before ++ pair_line seen) _
-      (λ _ w. w ∙ ap (λ z. before ++ pair_line z) (h b known) ∙ ap (λ z. before ++ page_line z (page_shows b l start size)) said ∙ ap (λ z. before ++ page_line (page_reply z start size) (page_shows b z start size)) lots) m
-
-  pub page_bad : (e : Refusal) → Err e ≡ page_reply l start size → IfOk r (λ _. after ≡ before ++ refused_line e.number) →
-      (b : ℕ → ℕ → Bool) → IfOk r (λ _. after ≡ before ++ page_line (page_reply (lots_by (verdict (bits_of mine))) start size) (page_shows b (lots_by (verdict (bits_of mine))) start size))
-  page_bad e said m b =
-      IfOk-weaker r (λ _. after ≡ before ++ refused_line e.number) _
-      (λ _ w. w ∙ ap (λ z. before ++ page_line z (page_shows b l start size)) said ∙ ap (λ z. before ++ page_line (page_reply z start size) (page_shows b z start size)) lots) m
-
 -- a page answers for the keys of the last cast
 no_verdict : (bits : List Bool) → [] ≡ bits → verdict bits ≡ Err (refusal 7 [])
 unfolding verdict judged closes
@@ -89,17 +72,6 @@ program_terms_lem make at_least arity m text w p q r =
     let room : letter_room text ≡ 14000 = omega arith in
     let most : room_for m ≡ 4000 = omega arith in
     ap (λ z. terms make at_least arity z (letter_room text) w) most ∙ ap (λ z. terms make at_least arity 4000 z w) room ∙ ap (λ z. terms make at_least arity 4000 14000 z) r
-
--- a new hall
-pub session_start : {K : Type 0} (at_least : K → K → Bool) (t : Terms K) (ks : List K) (bits : List Bool) (out : List ℕ) (left : List (List ℕ)) → ks ≡ [] → bits ≡ [] → out ≡ [] →
-    (shown : Option (List K)) × (Stands at_least shown bits × (out ++ replies t (hall ks shown) left ≡ replies t (hall [] None) left))
-session_start at_least t ks bits out left k n o = (
-  None,
-  (
-    record { sheet_is = sym n; few = λ zs e. absurd cc },
-    ap (λ z. z ++ replies t (hall ks None) left) o ∙ ap (λ z. replies t (hall z None) left) k,
-  ),
-)
 
 -- one line more of the replies
 module _ {K : Type 0} (at_least : K → K → Bool) (t : Terms K) (all : List ℕ) where

@@ -1,18 +1,12 @@
-use Rattle.std.proofs.Common.{◌≡◌, [], length, take, None, vec_items, refl, ap, ◌∙◌, subst, arith, length-take}
+use Rattle.std.proofs.Common.{◌≡◌, [], length, take, None, vec_items, ap, ◌∙◌, subst, arith, length-take}
 use Rattle.book.proofs.Steps.{take_len}
 use Rattle.commands.specs.declared.line.Lines.{Lines}
 use Rattle.commands.specs.Texts.{lines}
 use Rattle.hall.specs.Halls.{Terms, Next, program_terms, hall, replies, all_replies}
 use Rattle.hall.specs.States.{lots_in, bits_in, terms_in}
-use Rattle.hall.proofs.Turning.{session_start, next_more, session_all, program_terms_lem}
+use Rattle.hall.proofs.Turning.{next_more, session_all, program_terms_lem}
 use Rattle.hall.proofs.Performing.{terms_kept}
 use Rattle.hall.proofs.session.session.Goals as goal
-
-pub loop-line-init : goal.loop-line-init
-loop-line-init g c =
-    let new = c.hall-hall.result in
-    let t = terms_in g.K.Key.made g.K.Key.at_least g.K.Key.arity new in
-    (refl, session_start g.K.Key.at_least t (lots_in new) (bits_in new) (vec_items c.new-out.result) _ c.hall-hall.ensures.lots c.hall-hall.ensures.bits c.new-out.ensures.items)
 
 pub loop-line-preserved : goal.loop-line-preserved
 unfolding replies
