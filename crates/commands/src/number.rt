@@ -50,6 +50,7 @@ pub fn numbers_of(text: &[u8]) -> Option<Fields>
 {
     let mut values = [0u32; 5];
     let mut rest = text;
+    // By index, since the loop goes over fields, and the numbers so far are cut out of `values` where the last field ends.
     for at in 0..5 {
         let Some((field, behind)) = cut(rest, b',') else {
             values[at] = number_of(rest)?;

@@ -14,6 +14,8 @@ pub mod kept;
 pub mod line_panel;
 mod numeral;
 pub mod shown;
+#[cfg(test)]
+mod tests;
 
 /// A panel. What it means is read off its bytes or digits alone.
 pub trait Panel {
