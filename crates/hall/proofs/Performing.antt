@@ -1,5 +1,5 @@
 -- What is done at a hall is a turn of it: to a book, by a cast, and where nothing changes.
-use Rattle.std.proofs.Common.{◌≡◌, ℕ, ◌≤◌, Bool, List, ◌++◌, length, IfOk, Some, None, Option, Result, sym, ap, ◌∙◌, subst}
+use Rattle.std.proofs.Common.{◌≡◌, ℕ, suc, ◌*◌, ◌≤◌, min, Bool, List, ◌++◌, length, drop, arith, length-take, IfOk, Some, None, Option, Result, sym, refl, ap, ◌∙◌, subst}
 use Rattle.std.proofs.lemmas.Result.{IfOk-weaker}
 use Rattle.bits.specs.Punching.{letter_room}
 use Rattle.leaders.specs.Refusal.{Refusal}
@@ -7,10 +7,11 @@ use Rattle.casting.specs.Casts.{cast_sheet}
 use Rattle.book.specs.Entries.{Entry, entry, room_for, sheet_of}
 use Rattle.commands.specs.Asked.{Asked, cast}
 use Rattle.replies.specs.Replies.{book_line, cast_line}
+use Rattle.book.specs.declared.book.Book.{Book}
 use Rattle.hall.specs.declared.hall.Hall.{Hall}
 use Rattle.hall.specs.Halls.{Terms, terms, Turn, hall, book_turn, turn_of, bits_after, Stands, Turned}
 use Rattle.hall.specs.States.{lots_in, bits_in, terms_in, Done, Replied, Kept}
-use Rattle.hall.proofs.Turning.{cast_lots, book_turned, cast_turned, cast_replied}
+use Rattle.hall.proofs.Turning.{drop_later, cast_lots, book_turned, cast_turned, cast_replied}
 
 module _ {K : Type 0} (t : Terms K) (before : Hall K) (asked : Option Asked) where
   -- a call on the book
@@ -18,20 +19,19 @@ module _ {K : Type 0} (t : Terms K) (before : Hall K) (asked : Option Asked) whe
     turned_so : (shown : Option (List K)) → book_turn (hall (lots_in before) shown) e ≡ turn_of t (hall (lots_in before) shown) asked
     turned_so shown = sym (ap (turn_of t (hall (lots_in before) shown)) is ∙ turns shown)
 
-    pub booked : (after : Hall K) → bits_after t (lots_in before) (bits_in before) (Some q) ≡ bits_in before → bits_in after ≡ bits_in before → entry (lots_in after) reply ≡ e → Done t before after asked
-    booked after still same done =
-        record {
-          lots = ap (λ (z : Entry K). z.lots) done ∙ ap (λ (z : Turn K). z.after.lots) (turned_so None);
-          bits = same ∙ sym still ∙ ap (bits_after t (lots_in before) (bits_in before)) (sym is);
-          turned = λ shown st.
-              subst (λ (z : Turn K). Turned t.at_least z (lots_in after) (bits_in after)) (turned_so shown)
-              (subst (λ (z : List Bool). Turned t.at_least (book_turn (hall (lots_in before) shown) e) (lots_in after) z) (sym same)
-              (book_turned t.at_least (lots_in before) (lots_in after) shown (bits_in before) st e reply done));
-        }
-
-    pub book_replied : {T E : Type 0} (r : Result T E) (ls : List K) (out new : List ℕ) → entry ls reply ≡ e → IfOk r (λ _. new ≡ out ++ book_line reply) → Replied t before asked r out new
-    book_replied r ls out new done said shown st =
-        IfOk-weaker r _ _ (λ _ w. w ∙ ap (λ (z : Entry K). out ++ book_line z.reply) done ∙ ap (λ (z : Turn K). out ++ z.reply) (turned_so shown)) said
+    pub booked : {T E : Type 0} (after : Hall K) (r : Result T E) (out new : List ℕ) → bits_after t (lots_in before) (bits_in before) (Some q) ≡ bits_in before → bits_in after ≡ bits_in before → entry (lots_in after) reply ≡ e → IfOk r (λ _. new ≡ out ++ book_line reply) →
+        Done t before after asked × Replied t before asked r out new
+    booked after r out new still same done said = (
+      record {
+        lots = ap (λ (z : Entry K). z.lots) done ∙ ap (λ (z : Turn K). z.after.lots) (turned_so None);
+        bits = same ∙ sym still ∙ ap (bits_after t (lots_in before) (bits_in before)) (sym is);
+        turned = λ shown st.
+            subst (λ (z : Turn K). Turned t.at_least z (lots_in after) (bits_in after)) (turned_so shown)
+            (subst (λ (z : List Bool). Turned t.at_least (book_turn (hall (lots_in before) shown) e) (lots_in after) z) (sym same)
+            (book_turned t.at_least (lots_in before) (lots_in after) shown (bits_in before) st e reply done));
+      },
+      λ shown st. IfOk-weaker r _ _ (λ _ w. w ∙ ap (λ (z : Entry K). out ++ book_line z.reply) done ∙ ap (λ (z : Turn K). out ++ z.reply) (turned_so shown)) said,
+    )
 
   -- nothing changes but what is replied
   module _ (is : (shown : Option (List K)) → (turn_of t (hall (lots_in before) shown) asked).after ≡ hall (lots_in before) shown) where
@@ -69,3 +69,15 @@ terms_kept made at_least arity before after kept =
     ap (λ z. terms made at_least arity (room_for z) (letter_room after.punch.text.now) (length after.work.now)) kept.places
     ∙ ap (λ z. terms made at_least arity (room_for (length before.book.list.now)) z (length after.work.now)) kept.room
     ∙ ap (λ z. terms made at_least arity (room_for (length before.book.list.now)) (letter_room before.punch.text.now) z) kept.numbers
+
+-- a call on the book, and a cast, keep what no line changes
+pub book_kept : {K : Type 0} (before : Hall K) (book : Book K) → length book.list.now ≡ length before.book.list.now → book.list.ghost_name ≡ before.book.list.ghost_name → Kept before (record before { book = book })
+book_kept before book places lender =
+    record { places = places; lender = lender; room = refl; home = refl; numbers = refl; numbers_home = refl; rest = refl }
+
+pub few_lots : {K : Type 0} (h : Hall K) → length (lots_in h) ≤ 4000
+few_lots h = omega (arith, length-take (min 4000 h.book.count) h.book.list.now)
+
+-- the working numbers past 16,004 stay where those past a cast's do
+pub cast_rest : {K : Type 0} (h : Hall K) (new : List ℕ) → drop (4 * suc (length (lots_in h))) new ≡ drop (4 * suc (length (lots_in h))) h.work.now → drop 16004 new ≡ drop 16004 h.work.now
+cast_rest h new same = drop_later (4 * suc (length (lots_in h))) 16004 new h.work.now (omega (arith, few_lots h)) same

@@ -48,5 +48,5 @@ pub record Kept {K : Type 0} (before after : Hall K) : Type 0 where
   pub room : letter_room after.punch.text.now ≡ letter_room before.punch.text.now
   pub home : after.punch.text.ghost_name ≡ before.punch.text.ghost_name
   pub numbers : length after.work.now ≡ length before.work.now
-  pub desk : after.work.ghost_name ≡ before.work.ghost_name
+  pub numbers_home : after.work.ghost_name ≡ before.work.ghost_name
   pub rest : drop 16004 after.work.now ≡ drop 16004 before.work.now
