@@ -42,10 +42,10 @@ pub fn first_line(text: &[u8]) -> Option<Line<'_>>
     Some(Line { bytes, rest })
 }
 
-/// The lines of a text, one after another, each without its line feed.
+/// The lines of a text, one after another, each without its line feed; `rest` is the text behind those that are read.
 #[derive(Clone, Copy)]
 pub struct Lines<'a> {
-    rest: &'a [u8],
+    pub rest: &'a [u8],
 }
 
 impl<'a> Lines<'a> {

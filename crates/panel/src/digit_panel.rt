@@ -9,7 +9,7 @@ use crate::shown::Shown;
 const SEGMENTS: [u8; 10] = [0x3F, 0x06, 0x5B, 0x4F, 0x66, 0x6D, 0x7D, 0x07, 0x7F, 0x6F];
 
 /// The face of drawn digits: four for the best and four for the second, right-aligned, dark where there is none.
-pub struct Digits {}
+pub struct Digits;
 
 /// A panel of eight digits: four for the best and four for the second, right-aligned, dark where there is none.
 pub type DigitPanel = FacePanel<Digits, 8>;

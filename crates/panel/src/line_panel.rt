@@ -9,7 +9,7 @@ use crate::shown::Shown;
 const LETTERS: [u8; 10] = *b"0123456789";
 
 /// The face of a line: the best in decimal, a comma, the second if any, then spaces.
-pub struct Line {}
+pub struct Line;
 
 /// A panel of nine bytes: the best in decimal, a comma, the second if any, then spaces.
 pub type LinePanel = FacePanel<Line, 9>;
