@@ -1,16 +1,44 @@
 -- Where a byte stands first in a text, and how the text is parted there.
-use Rattle.std.proofs.Common.{◌≡◌, ℕ, suc, ◌+◌, ◌<◌, ◌≤◌, Bool, true, false, cond, eqb, List, [], ◌∷◌, length, get_or, take, drop, sym, refl, ap, ◌∙◌, ap₂, ⊎_elim, arith}
-use Rattle.std.proofs.lemmas.List.{at_drop_more, at_drop_all, drop_all, length-drop, take_all}
-use Rattle.std.proofs.lemmas.Bool.{cases_lt}
-use Rattle.commands.specs.Texts.{in_front, parted, lines, fields, place, FirstLine}
+use Rattle.std.proofs.Common.{◌≡◌, ℕ, suc, ◌+◌, ◌<◌, ◌≤◌, Bool, true, false, cond, not, eqb, ltb, List, [], ◌∷◌, length, take, drop, Some, None, sym, refl, ap, ◌∙◌, ap₂, ⊎_elim, arith}
+use Rattle.std.proofs.lemmas.List.{drop_all, length-drop, take_all}
+use Rattle.std.specs.List.{position, position_or_len}
+use Rattle.std.proofs.lemmas.Bool.{cases_lt, cond-true, cond-false, lt-ltb, le-ltb}
+use Rattle.commands.specs.Texts.{in_front, parted, lines, fields, place, Cut, FirstLine}
 
-pub place_more : (xs : List ℕ) (i mark : ℕ) → i < length xs → place (drop i xs) mark ≡ cond (eqb (get_or xs i 0) mark) 0 (suc (place (drop (i + 1) xs) mark))
-unfolding place
-place_more xs i mark h = at_drop_more (λ ys. place ys mark) xs i 0 h
+step : (t : Bool) (p q : ℕ) → p ≡ q → cond (not t) (1 + p) 0 ≡ cond t 0 (suc q)
+step true p q e = refl
+step false p q e = omega arith
 
-pub place_all : (xs : List ℕ) (i mark : ℕ) → length xs ≤ i → place (drop i xs) mark ≡ 0
+within : (p n q at : ℕ) → p ≡ q → Some at ≡ cond (ltb p n) (Some p) None → (at ≡ q) × (at < n)
+within p n q at e is =
+    ⊎_elim
+    (λ h. let same : Some at ≡ Some p = is ∙ cond-true (ltb p n) (Some p) None (lt-ltb p n h) in let here : at ≡ p = cc in (omega arith, omega arith))
+    (λ h. absurd (let none : Some at ≡ None = is ∙ cond-false (ltb p n) (Some p) None (le-ltb p n h) in cc))
+    (cases_lt p n)
+
+past : (p n q : ℕ) → p ≡ q → None ≡ cond (ltb p n) (Some p) None → n ≤ q
+past p n q e is =
+    ⊎_elim
+    (λ h. absurd (let some : None ≡ Some p = is ∙ cond-true (ltb p n) (Some p) None (lt-ltb p n h) in cc))
+    (λ h. omega arith)
+    (cases_lt p n)
+
+place_is : (text : List ℕ) (mark : ℕ) → position_or_len (λ b. eqb b mark) text ≡ place text mark
 unfolding place
-place_all xs i mark h = at_drop_all (λ ys. place ys mark) xs i h
+place_is [] mark = refl
+place_is (b ∷ bs) mark = step (eqb b mark) (position_or_len (λ c. eqb c mark) bs) (place bs mark) (place_is bs mark)
+
+-- a place that is found, and none
+place_found : (text : List ℕ) (mark at : ℕ) → Some at ≡ position (λ b. eqb b mark) text → (at ≡ place text mark) × (at < length text)
+place_found text mark at e = within (position_or_len (λ b. eqb b mark) text) (length text) (place text mark) at (place_is text mark) e
+
+pub place_none : (text : List ℕ) (mark : ℕ) → None ≡ position (λ b. eqb b mark) text → length text ≤ place text mark
+place_none text mark e = past (position_or_len (λ b. eqb b mark) text) (length text) (place text mark) (place_is text mark) e
+
+pub cut_at : (text : List ℕ) (mark at : ℕ) (before behind : List ℕ) → before ≡ take at text → Some at ≡ position (λ b. eqb b mark) text → behind ≡ drop (at + 1) text → Cut text mark before behind
+cut_at text mark at before behind is-before found is-behind =
+    let (here, there) = place_found text mark at found in
+    record { there = omega arith; before_is = is-before ∙ ap (λ k. take k text) here; behind_is = is-behind ∙ ap (λ k. drop (k + 1) text) here }
 
 module _ (none : List (List ℕ)) (mark : ℕ) where
   -- a byte more in front, which is the mark or is not
@@ -57,28 +85,25 @@ part_last mark (b ∷ []) some h = last_one b (eqb b mark) h
 part_last mark (b ∷ c ∷ bs) some h = last_step mark b (c ∷ bs) (eqb b mark) (part_last mark (c ∷ bs) (omega arith)) h
 
 -- the first line, with a line feed and without
-pub line_found : (text bytes rest : List ℕ) (end : ℕ) → end ≡ place text 10 → end < length text → bytes ≡ take end text → rest ≡ drop (end + 1) text → FirstLine text bytes rest
-line_found text bytes rest end e h p q =
-    let bs : bytes ≡ take (place text 10) text = p ∙ ap (λ k. take k text) e in
-    let rs : rest ≡ drop (place text 10 + 1) text = q ∙ ap (λ k. drop (k + 1) text) e in
+pub line_found : (text bytes rest : List ℕ) → Cut text 10 bytes rest → FirstLine text bytes rest
+line_found text bytes rest cut =
     record {
-      bytes_are = bs;
-      rest_is = rs;
-      lines_are = part_at [] 10 text (omega arith) ∙ ap₂ (λ x y. x ∷ lines y) (sym bs) (sym rs);
-      shorter = omega (arith, ap length q, length-drop (end + 1) text);
+      bytes_are = cut.before_is;
+      rest_is = cut.behind_is;
+      lines_are = part_at [] 10 text cut.there ∙ ap₂ (λ x y. x ∷ lines y) (sym cut.before_is) (sym cut.behind_is);
+      shorter = omega (arith, cut.there, ap length cut.behind_is, length-drop (place text 10 + 1) text);
     }
 
-no_lines : (rest : List ℕ) → rest ≡ [] → [] ≡ lines rest
+pub no_lines : (rest : List ℕ) → rest ≡ [] → lines rest ≡ []
 unfolding parted
-no_lines rest e = sym (ap lines e)
+no_lines rest e = ap lines e
 
-pub line_last : (text rest : List ℕ) (end : ℕ) → end ≡ place text 10 → length text ≤ end → 0 < length text → rest ≡ drop end text → FirstLine text text rest
-line_last text rest end e h some q =
-    let none : rest ≡ [] = q ∙ drop_all end text h in
+pub line_last : (text rest : List ℕ) → length text ≤ place text 10 → 0 < length text → rest ≡ [] → FirstLine text text rest
+line_last text rest h some none =
     record {
-      bytes_are = sym (take_all (place text 10) text (omega arith));
+      bytes_are = sym (take_all (place text 10) text h);
       rest_is = none ∙ sym (drop_all (place text 10 + 1) text (omega arith));
-      lines_are = part_last 10 text some (omega arith) ∙ ap (λ z. text ∷ z) (no_lines rest none);
+      lines_are = part_last 10 text some h ∙ ap (λ z. text ∷ z) (sym (no_lines rest none));
       shorter = omega (arith, ap length none);
     }
 

@@ -58,6 +58,12 @@ asked_by arity letter ns =
     (cond (letter == 99) (cast_by ns)
     (cond (letter == 112) (page_by ns) None))))
 
+-- The same of a first field, which asks something only if it is one letter.
+abbrev pub lettered_by : ℕ → List ℕ → List ℕ → Option Asked
+lettered_by arity [] ns = None
+lettered_by arity (letter ∷ []) ns = asked_by arity letter ns
+lettered_by arity (a ∷ b ∷ bs) ns = None
+
 -- The same where the numbers may be none.
 abbrev pub asked_with : ℕ → ℕ → Option (List ℕ) → Option Asked
 asked_with arity letter None = None

@@ -24,6 +24,12 @@ unfoldable pub place : List ℕ → ℕ → ℕ
 place [] mark = 0
 place (b ∷ bs) mark = cond (b == mark) 0 (suc (place bs mark))
 
+-- A text up to the first place of a byte, and what stands behind that.
+pub record Cut (text : List ℕ) (mark : ℕ) (before behind : List ℕ) : Type 0 where
+  pub there : place text mark < length text
+  pub before_is : before ≡ take (place text mark) text
+  pub behind_is : behind ≡ drop (place text mark + 1) text
+
 -- A text's first line, up to its first line feed, and the rest behind that.
 pub record FirstLine (text bytes rest : List ℕ) : Type 0 where
   pub bytes_are : bytes ≡ take (place text 10) text

@@ -2,9 +2,9 @@
 
 ghost use Rattle.std.specs.Prelude.{◌≡◌};
 ghost use Rattle.std.specs.Option.{option_map};
-ghost use Rattle.commands.specs.Asked.{asks, add_by, strike_by, new_key_by, cast_by, page_by, asked_by, asked_of};
+ghost use Rattle.commands.specs.Asked.{asks, add_by, strike_by, new_key_by, cast_by, page_by, asked_by, lettered_by, asked_of};
 
-use crate::line::place_of;
+use crate::line::cut;
 use crate::number::numbers_of;
 use book::fields::Fields;
 use keys::key::{Key, has_count};
@@ -29,11 +29,7 @@ const MOST: usize = 64;
 fn add_of<K: Key>(numbers: &[u32]) -> Option<Command>
     ensures { option_map asks result ≡ add_by K.Key.arity numbers.now }
 {
-    if has_count::<K>(numbers) {
-        Some(Command::Add(Fields::new(numbers)))
-    } else {
-        None
-    }
+    has_count::<K>(numbers).then(|| Command::Add(Fields::new(numbers)))
 }
 
 fn strike_of(numbers: &[u32]) -> Option<Command>
@@ -48,15 +44,10 @@ fn strike_of(numbers: &[u32]) -> Option<Command>
 fn new_key_of<K: Key>(numbers: &[u32]) -> Option<Command>
     ensures { option_map asks result ≡ new_key_by K.Key.arity numbers.now }
 {
-    if numbers.len() < 1 {
+    let [lot, fields @ ..] = numbers else {
         return None;
-    }
-    let fields = &numbers[1..];
-    if has_count::<K>(fields) {
-        Some(Command::NewKey(numbers[0], Fields::new(fields)))
-    } else {
-        None
-    }
+    };
+    has_count::<K>(fields).then(|| Command::NewKey(*lot, Fields::new(fields)))
 }
 
 fn cast_of(numbers: &[u32]) -> Option<Command>
@@ -91,6 +82,16 @@ fn command_by<K: Key>(letter: char, numbers: &[u32]) -> Option<Command>
     }
 }
 
+/// The command of a line's first field, which is to be one letter, and of the numbers behind it.
+fn lettered<K: Key>(field: &[u8], numbers: &[u32]) -> Option<Command>
+    ensures { option_map asks result ≡ lettered_by K.Key.arity field.now numbers.now }
+{
+    let [letter] = field else {
+        return None;
+    };
+    command_by::<K>(*letter as char, numbers)
+}
+
 /// The command on a line, for keys of the kind `K`; `None` where the line is malformed.
 pub fn command_of<K: Key>(line: &[u8]) -> Option<Command>
     ensures { option_map asks result ≡ asked_of K.Key.arity line.now }
@@ -98,13 +99,8 @@ pub fn command_of<K: Key>(line: &[u8]) -> Option<Command>
     if line.len() > MOST {
         return None;
     }
-    if place_of(line, b',') != 1 {
-        return None;
-    }
-    let letter = line[0] as char;
-    if line.len() < 2 {
-        return command_by::<K>(letter, &[]);
-    }
-    let numbers = numbers_of(&line[2..])?;
-    command_by::<K>(letter, numbers.as_slice())
+    let Some((letter, numbers)) = cut(line, b',') else {
+        return lettered::<K>(line, &[]);
+    };
+    lettered::<K>(letter, numbers_of(numbers)?.as_slice())
 }

@@ -1,19 +1,22 @@
 //! A text parted into lines.
 
-ghost use Rattle.std.specs.Prelude.{◌≡◌, ◌≤◌, [], length, MatchOption};
-ghost use Rattle.commands.specs.Texts.{place, FirstLine};
+ghost use Rattle.std.specs.Prelude.{◌≡◌, ◌≤◌, [], length, position, ◌==◌, MatchOption};
+ghost use Rattle.std.specs.Iterator.{YieldsFirstRef, item_count};
+ghost use Rattle.commands.specs.Texts.{place, lines, Cut, FirstLine};
 
-/// Where a byte stands first in a text, or the length if it is not there.
-pub fn place_of(text: &[u8], mark: u8) -> usize
-    ensures within { result ≤ length text.now }
-    ensures first { result ≡ place text.now mark }
+/// Where a byte stands first in a text, if it is there.
+pub fn place_of(text: &[u8], mark: u8) -> Option<usize>
+    ensures { result ≡ position (λ b. b == mark) text.now }
 {
-    for (i, x) in text.iter().enumerate() {
-        if *x == mark {
-            return i;
-        }
-    }
-    text.len()
+    text.iter().position(|x| *x == mark)
+}
+
+/// A text up to the first place of a byte, and what stands behind that; `None` where the byte is not there.
+pub(crate) fn cut(text: &[u8], mark: u8) -> Option<(&[u8], &[u8])>
+    ensures { MatchOption result (length text.now ≤ place text.now mark) (λ p. Cut text.now mark p.0.now p.1.now) }
+{
+    let at = place_of(text, mark)?;
+    Some((&text[..at], &text[at + 1..]))
 }
 
 /// A line without its line feed, and the text behind it.
@@ -30,15 +33,40 @@ pub fn first_line(text: &[u8]) -> Option<Line<'_>>
     if text.is_empty() {
         return None;
     }
-    let end = place_of(text, b'\n');
-    if end < text.len() {
+    let Some((bytes, rest)) = cut(text, b'\n') else {
         return Some(Line {
-            bytes: &text[0..end],
-            rest: &text[end + 1..],
+            bytes: text,
+            rest: &[],
         });
+    };
+    Some(Line { bytes, rest })
+}
+
+/// The lines of a text, one after another, each without its line feed; `rest` is the text behind those that are read.
+#[derive(Clone, Copy)]
+pub struct Lines<'a> {
+    pub rest: &'a [u8],
+}
+
+impl<'a> Lines<'a> {
+    /// The lines of this text.
+    pub fn new(text: &'a [u8]) -> Lines<'a>
+        ensures { result.rest.now ≡ text.now }
+    {
+        Lines { rest: text }
     }
-    Some(Line {
-        bytes: text,
-        rest: &text[end..],
-    })
+}
+
+impl<'a> Iterator for Lines<'a> {
+    type Item = &'a [u8];
+
+    ghost next_gives = { YieldsFirstRef (λ s. lines s.rest.now) };
+
+    ghost remaining = { item_count (λ s. lines s.rest.now) };
+
+    fn next(&mut self) -> Option<&'a [u8]> {
+        let line = first_line(self.rest)?;
+        self.rest = line.rest;
+        Some(line.bytes)
+    }
 }

@@ -6,20 +6,17 @@ ghost use Rattle.book.specs.Held.{numbers};
 ghost use Rattle.commands.specs.Texts.{fields};
 ghost use Rattle.commands.specs.Numbers.{begun_well, one_digit_on, number_of, numbers_in, up_to_five, NumbersAreDecimal};
 
-use crate::line::place_of;
+use crate::line::cut;
 use book::fields::Fields;
-
-/// The largest number that a field may write.
-const MOST: u64 = 4_294_967_295;
 
 /// Whether a text begins as a number does: with no needless nought.
 fn well_begun(text: &[u8]) -> bool
     ensures { result ≡ begun_well text.now }
 {
-    if text.len() > 1 {
-        text[0] != b'0'
-    } else {
-        text.len() == 1
+    match text {
+        [] => false,
+        [_] => true,
+        [first, ..] => *first != b'0',
     }
 }
 
@@ -27,14 +24,10 @@ fn well_begun(text: &[u8]) -> bool
 fn with_digit(n: u32, byte: u8) -> Option<u32>
     ensures { result ≡ one_digit_on n byte }
 {
-    if byte < b'0' || byte > b'9' {
+    if !byte.is_ascii_digit() {
         return None;
     }
-    let longer = 10 * u64::from(n) + u64::from(byte - b'0');
-    if longer > MOST {
-        return None;
-    }
-    Some(longer as u32)
+    n.checked_mul(10)?.checked_add(u32::from(byte - b'0'))
 }
 
 /// The number that a text writes: decimal digits without a needless leading nought, at most 4,294,967,295.
@@ -46,8 +39,7 @@ pub fn number_of(text: &[u8]) -> Option<u32>
     }
     let mut n: u32 = 0;
     for byte in text {
-        let longer = with_digit(n, *byte)?;
-        n = longer;
+        n = with_digit(n, *byte)?;
     }
     Some(n)
 }
@@ -58,14 +50,14 @@ pub fn numbers_of(text: &[u8]) -> Option<Fields>
 {
     let mut values = [0u32; 5];
     let mut rest = text;
+    // By index, since the loop goes over fields, and the numbers so far are cut out of `values` where the last field ends.
     for at in 0..5 {
-        let end = place_of(rest, b',');
-        let n = number_of(&rest[0..end])?;
-        values[at] = n;
-        if end >= rest.len() {
-            return Some(Fields::new(&values[0..at + 1]));
-        }
-        rest = &rest[end + 1..];
+        let Some((field, behind)) = cut(rest, b',') else {
+            values[at] = number_of(rest)?;
+            return Some(Fields::new(&values[..=at]));
+        };
+        values[at] = number_of(field)?;
+        rest = behind;
     }
     None
 }

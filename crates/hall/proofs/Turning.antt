@@ -2,7 +2,7 @@
 use Rattle.std.proofs.Common.{◌≡◌, ℕ, suc, ◌+◌, ◌-◌, ◌*◌, ◌≤◌, Bool, true, false, cond, ltb, List, [], ◌∷◌, ◌++◌, length, drop, IfOk, Some, None, Ok, Err, Option, Result, sym, refl, ap, ◌∙◌, subst, arith}
 use Rattle.std.proofs.lemmas.List.{append_assoc, append-nil, drop-drop}
 use Rattle.std.proofs.lemmas.Result.{IfOk-weaker}
-use Rattle.bits.specs.Punching.{letters, letter_room}
+use Rattle.bits.specs.Punching.{letter_room}
 use Rattle.leaders.specs.Order.{Strict, beats}
 use Rattle.leaders.specs.Refusal.{Refusal, refusal}
 use Rattle.leaders.specs.Verdict.{verdict, judged, closes}
@@ -10,9 +10,8 @@ use Rattle.casting.specs.Casts.{Casting, casting, cast_sheet}
 use Rattle.book.specs.Entries.{Entry, entry, room_for, sheet_of}
 use Rattle.board.specs.Pages.{lots_by, page_reply, page_shows, Knows}
 use Rattle.board.proofs.Sittings.{knows_sheet}
-use Rattle.panel.specs.declared.shown.Shown.{Shown}
-use Rattle.commands.specs.Texts.{parted, lines, FirstLine}
-use Rattle.replies.specs.Replies.{refused_line, pair_line, cast_line, page_line}
+use Rattle.commands.specs.Texts.{lines, FirstLine}
+use Rattle.replies.specs.Replies.{cast_line, page_line}
 use Rattle.hall.specs.Halls.{Terms, terms, program_terms, Hall, hall, book_turn, cast_shown, shown_bits, cast_turn, page_of, line_turn, replies, Stands, Turned, Next}
 
 -- the working numbers past a place stay where those past an earlier one do
@@ -51,22 +50,6 @@ module _ {K : Type 0} (at_least : K → K → Bool) (ks ls : List K) (shown : Op
     pub cast_replied : {T E : Type 0} (r : Result T E) (before after : List ℕ) → IfOk r (λ _. after ≡ before ++ cast_line (cast_sheet (sheet_of at_least ks) (length ks) room work bits)) → IfOk r (λ _. after ≡ before ++ cast_line (cast_sheet (sheet_of at_least ks) (length ks) room work (shown_bits at_least shown)))
     cast_replied r before after m = IfOk-weaker r _ _ (λ _ w. w ∙ ap (λ (z : Casting). before ++ cast_line z) cast_same) m
 
--- what a page on a board that has taken its tape replies, shown and refused
-module _ {T : Type 0} (bits_of : T → List Bool) (mine its : T) (same : its ≡ mine) (l : Option ℕ) (lots : l ≡ lots_by (verdict (bits_of mine))) (start size : ℕ) {A E : Type 0} (r : Result A E) (before after : List ℕ) where
-  pub page_good : (seen : Shown) → Ok tt ≡ page_reply l start size → ((b : ℕ → ℕ → Bool) → Knows b l (bits_of its) → seen ≡ page_shows b l start size) → IfOk r (λ _. after ≡ before ++ pair_line seen) →
-      (b : ℕ → ℕ → Bool) → Knows b (lots_by (verdict (bits_of mine))) (bits_of mine) → IfOk r (λ _. after ≡ before ++ page_line (page_reply (lots_by (verdict (bits_of mine))) start size) (page_shows b (lots_by (verdict (bits_of mine))) start size))
-  page_good seen said h m b k =
-      let here : Knows b (lots_by (verdict (bits_of mine))) (bits_of its) = subst (λ (x : T). Knows b (lots_by (verdict (bits_of mine))) (bits_of x)) (sym same) k in
-      let known : Knows b l (bits_of its) = subst (λ (z : Option ℕ). Knows b z (bits_of its)) (sym lots) here in
-      IfOk-weaker r (λ _. after ≡ before ++ pair_line seen) _
-      (λ _ w. w ∙ ap (λ z. before ++ pair_line z) (h b known) ∙ ap (λ z. before ++ page_line z (page_shows b l start size)) said ∙ ap (λ z. before ++ page_line (page_reply z start size) (page_shows b z start size)) lots) m
-
-  pub page_bad : (e : Refusal) → Err e ≡ page_reply l start size → IfOk r (λ _. after ≡ before ++ refused_line e.number) →
-      (b : ℕ → ℕ → Bool) → IfOk r (λ _. after ≡ before ++ page_line (page_reply (lots_by (verdict (bits_of mine))) start size) (page_shows b (lots_by (verdict (bits_of mine))) start size))
-  page_bad e said m b =
-      IfOk-weaker r (λ _. after ≡ before ++ refused_line e.number) _
-      (λ _ w. w ∙ ap (λ z. before ++ page_line z (page_shows b l start size)) said ∙ ap (λ z. before ++ page_line (page_reply z start size) (page_shows b z start size)) lots) m
-
 -- a page answers for the keys of the last cast
 no_verdict : (bits : List Bool) → [] ≡ bits → verdict bits ≡ Err (refusal 7 [])
 unfolding verdict judged closes
@@ -90,23 +73,12 @@ program_terms_lem make at_least arity m text w p q r =
     let most : room_for m ≡ 4000 = omega arith in
     ap (λ z. terms make at_least arity z (letter_room text) w) most ∙ ap (λ z. terms make at_least arity 4000 z w) room ∙ ap (λ z. terms make at_least arity 4000 14000 z) r
 
--- a new hall
-pub session_start : {K : Type 0} (at_least : K → K → Bool) (t : Terms K) (ks : List K) (text : List ℕ) (count : ℕ) (out rest : List ℕ) → ks ≡ [] → count ≡ 0 → out ≡ [] →
-    (shown : Option (List K)) × (Stands at_least shown (letters text count) × (out ++ replies t (hall ks shown) (lines rest) ≡ replies t (hall [] None) (lines rest)))
-session_start at_least t ks text count out rest k n o = (
-  None,
-  (
-    record { sheet_is = ap (letters text) (sym n); few = λ zs e. absurd (let z : ◌≡◌ {A = ℕ} 0 1 = cc in omega arith) },
-    ap (λ z. z ++ replies t (hall ks None) (lines rest)) o ∙ ap (λ z. replies t (hall z None) (lines rest)) k,
-  ),
-)
-
 -- one line more of the replies
 module _ {K : Type 0} (at_least : K → K → Bool) (t : Terms K) (all : List ℕ) where
-  pub session_more : (ks ls : List K) (shown : Option (List K)) (bits : List Bool) (before after text bytes rest : List ℕ) → FirstLine text bytes rest → Turned at_least (line_turn t (hall ks shown) bytes) ls bits → after ≡ before ++ (line_turn t (hall ks shown) bytes).reply → before ++ replies t (hall ks shown) (lines text) ≡ all →
+  line_more : (ks ls : List K) (shown : Option (List K)) (bits : List Bool) (before after text bytes rest : List ℕ) → Turned at_least (line_turn t (hall ks shown) bytes) ls bits → after ≡ before ++ (line_turn t (hall ks shown) bytes).reply →
+      replies t (hall ks shown) (lines text) ≡ (line_turn t (hall ks shown) bytes).reply ++ replies t (line_turn t (hall ks shown) bytes).after (lines rest) → before ++ replies t (hall ks shown) (lines text) ≡ all →
       (new : Option (List K)) × (Stands at_least new bits × (after ++ replies t (hall ls new) (lines rest) ≡ all))
-  unfolding replies
-  session_more ks ls shown bits before after text bytes rest first w said inv =
+  line_more ks ls shown bits before after text bytes rest w said owed inv =
       let n = line_turn t (hall ks shown) bytes in (
         n.after.shown,
         (
@@ -114,28 +86,24 @@ module _ {K : Type 0} (at_least : K → K → Bool) (t : Terms K) (all : List �
           ap (λ z. z ++ replies t (hall ls n.after.shown) (lines rest)) said
               ∙ ap (λ z. (before ++ n.reply) ++ replies t (hall z n.after.shown) (lines rest)) w.lots_are
               ∙ append_assoc before n.reply (replies t n.after (lines rest))
-              ∙ ap (λ z. before ++ replies t (hall ks shown) z) (sym first.lines_are)
+              ∙ ap (λ z. before ++ z) (sym owed)
               ∙ inv,
         ),
       )
+
+  pub session_more : (ks ls : List K) (shown : Option (List K)) (bits : List Bool) (before after text bytes rest : List ℕ) → FirstLine text bytes rest → Turned at_least (line_turn t (hall ks shown) bytes) ls bits → after ≡ before ++ (line_turn t (hall ks shown) bytes).reply → before ++ replies t (hall ks shown) (lines text) ≡ all →
+      (new : Option (List K)) × (Stands at_least new bits × (after ++ replies t (hall ls new) (lines rest) ≡ all))
+  unfolding replies
+  session_more ks ls shown bits before after text bytes rest first w said inv =
+      line_more ks ls shown bits before after text bytes rest w said (ap (replies t (hall ks shown)) first.lines_are) inv
 
 -- the same of a line that has had its turn, and the end
 module _ {K : Type 0} (t : Terms K) (all : List ℕ) where
   pub next_more : (ks ls : List K) (shown : Option (List K)) (bits : List Bool) (before after text rest : List ℕ) → Next t (hall ks shown) text rest ls bits before after → before ++ replies t (hall ks shown) (lines text) ≡ all →
       (new : Option (List K)) × (Stands t.at_least new bits × (after ++ replies t (hall ls new) (lines rest) ≡ all))
   next_more ks ls shown bits before after text rest next inv =
-      let n = line_turn t (hall ks shown) next.line in (
-        n.after.shown,
-        (
-          next.turned.stands,
-          ap (λ z. z ++ replies t (hall ls n.after.shown) (lines rest)) next.replied
-              ∙ ap (λ z. (before ++ n.reply) ++ replies t (hall z n.after.shown) (lines rest)) next.turned.lots_are
-              ∙ append_assoc before n.reply (replies t n.after (lines rest))
-              ∙ ap (λ z. before ++ z) (sym next.owed)
-              ∙ inv,
-        ),
-      )
+      line_more t.at_least t all ks ls shown bits before after text next.line rest next.turned next.replied next.owed inv
 
-  pub session_all : (h : Hall K) (out text : List ℕ) → text ≡ [] → out ++ replies t h (lines text) ≡ all → out ≡ all
-  unfolding replies parted
-  session_all h out text none inv = sym (append-nil out) ∙ ap (λ z. out ++ replies t h (lines z)) (sym none) ∙ inv
+  pub session_all : (h : Hall K) (out : List ℕ) (left : List (List ℕ)) → left ≡ [] → out ++ replies t h left ≡ all → out ≡ all
+  unfolding replies
+  session_all h out left none inv = sym (append-nil out) ∙ ap (λ z. out ++ replies t h z) (sym none) ∙ inv

@@ -2,5 +2,8 @@
 #![tactic(auto)]
 
 pub mod answer;
+pub mod hall;
 pub mod program;
 pub mod session;
+#[cfg(test)]
+mod tests;

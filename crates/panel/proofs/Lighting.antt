@@ -1,16 +1,15 @@
 -- The digit panel: its code lights the digits of a pair, and the pair is read off its digits.
-use Rattle.std.proofs.Common.{◌≡◌, ℕ, ◌+◌, ◌-◌, ◌≤◌, true, List, [], ◌++◌, length, get_or, take, drop, refl, ◌∙◌, append-nil, arith}
-use Rattle.std.proofs.lemmas.List.{take_at, drop_at, length-append, length-replicate}
+use Rattle.std.proofs.Common.{◌≡◌, ℕ, ◌+◌, ◌-◌, ◌<◌, ◌≤◌, true, Some, None, Option, List, [], ◌++◌, length, take, drop, refl, ap, ◌∙◌, append-nil, arith}
+use Rattle.std.proofs.lemmas.List.{take_at, drop_at, take_all, length-append, length-replicate, length-drop}
 use Rattle.panel.specs.declared.shown.Shown.{Shown}
 use Rattle.panel.specs.declared.shown.Shown.TheVariants.{Blank, Best, Pair}
 use Rattle.panel.specs.Numerals.{numeral}
-use Rattle.panel.specs.Shows.{proper}
+use Rattle.panel.specs.Shows.{proper, best_of, second_of}
 use Rattle.panel.specs.Digits.{segments, dark, right_aligned, digits_lit}
-use Rattle.panel.specs.Inner.{inked, place, reading, shown_of_numbers, best_in, second_in, guess_digits}
+use Rattle.panel.specs.Inner.{inked, place, reading, shown_by}
 use Rattle.panel.proofs.Writing.{inked_blank, numeral_length}
-use Rattle.panel.proofs.Readings.{Legible, below_is, reading_among, numbers_back}
 use Rattle.panel.proofs.Meanings.{Undoes}
-use Rattle.panel.proofs.Lining.{width_le, lots_in, lots_short}
+use Rattle.panel.proofs.Readings.{Legible, legible_by, reading_blanks, reading_among, numbers_back, width_le, best_lot, second_lot, best_width, second_width}
 
 field_length : (t : List ℕ) → length t ≤ 4 → length (dark (4 - length t) ++ t) ≡ 4
 field_length t short = omega (arith, length-append (dark (4 - length t)) t, length-replicate {A = ℕ} (4 - length t) 0)
@@ -26,48 +25,86 @@ digits_lit_lem t u short-t short-u =
     let end = append-nil (field ++ (dark (4 - length u) ++ u)) in
     cc
 
-pub digits_are : (s : Shown) → digits_lit s ≡ right_aligned (best_in s) ++ right_aligned (second_in s)
+-- four digits for a lot, dark where there is none
+abbrev pub field_of : Option ℕ → List ℕ
+field_of None = dark 4
+field_of (Some n) = right_aligned n
+
+digits_are : (s : Shown) → digits_lit s ≡ field_of (best_of s) ++ field_of (second_of s)
 unfolding digits_lit
 digits_are Blank = refl
 digits_are (Best b) = refl
 digits_are (Pair b s) = refl
 
-pub light_written : (s : Shown) → proper s ≡ true → (best second : ℕ) (a b : List ℕ) → best ≡ best_in s → second ≡ second_in s → a ≡ inked (dark 8) 4 (numeral segments best) → b ≡ inked a 8 (numeral segments second) → b ≡ digits_lit s
-light_written s h best second a b is-best is-second is-a is_b =
-    let short = lots_short s h is-best is-second in
-    let first = numeral_length segments best in
-    let next = numeral_length segments second in
-    let lit = digits_lit_lem (numeral segments best) (numeral segments second) (omega arith) (omega arith) in
-    let shown = digits_are s in
+-- the code's draws
+pub blank_lit : (s : Shown) → None ≡ best_of s → dark 8 ≡ digits_lit s
+unfolding digits_lit
+blank_lit Blank e = refl
+blank_lit (Best b) e = absurd cc
+blank_lit (Pair b n) e = absurd cc
+
+best_written : (t : List ℕ) → length t ≤ 4 → inked (dark 8) 4 t ≡ (dark (4 - length t) ++ t) ++ dark 4
+best_written t short = inked_blank 0 [] t 8 4 short (omega arith)
+
+pub best_lit : (s : Shown) → proper s ≡ true → (b : ℕ) (a : List ℕ) → Some b ≡ best_of s → None ≡ second_of s → a ≡ inked (dark 8) 4 (numeral segments b) → a ≡ digits_lit s
+best_lit s h b a is-b is-n is-a =
+    let short = best_width s h b is-b in
+    let count = numeral_length segments b in
+    let written = best_written (numeral segments b) (omega arith) in
+    let are = digits_are s in
+    let best = ap field_of is-b in
+    let none = ap field_of is-n in
+    cc
+
+pub pair_lit : (s : Shown) → proper s ≡ true → (b n : ℕ) (a z : List ℕ) → Some b ≡ best_of s → Some n ≡ second_of s → a ≡ inked (dark 8) 4 (numeral segments b) → z ≡ inked a 8 (numeral segments n) → z ≡ digits_lit s
+pair_lit s h b n a z is-b is-n is-a is-z =
+    let short = best_width s h b is-b in
+    let short-too = second_width s h n is-n in
+    let count = numeral_length segments b in
+    let count-too = numeral_length segments n in
+    let written = digits_lit_lem (numeral segments b) (numeral segments n) (omega arith) (omega arith) in
+    let are = digits_are s in
+    let best = ap field_of is-b in
+    let second = ap field_of is-n in
     cc
 
 segments_legible : Legible segments
 unfolding place
-segments_legible = below_is (λ d. place segments (get_or segments d 0)) (λ d. d) refl
+segments_legible = legible_by segments refl
 
-no_segments : place segments 0 ≡ 10
+no_segments : place segments 0 ≡ None
 unfolding place
 no_segments = refl
 
-reading_field : (n : ℕ) → n ≤ 4000 → reading segments 0 (right_aligned n) ≡ n
-reading_field n small =
-    let field = reading_among segments 0 segments_legible no_segments (4 - length (numeral segments n)) 0 n small in
+-- what is read off four digits, and how many they are
+reading_field : (o : Option ℕ) → ((n : ℕ) → Some n ≡ o → (0 < n) × (n ≤ 4000)) → (length (field_of o) ≡ 4) × (reading segments None (field_of o) ≡ o)
+reading_field None lot = (refl, reading_blanks segments 0 no_segments 4 None)
+reading_field (Some n) lot =
+    let is = lot n refl in
+    let short = width_le n is.1 in
+    let count = numeral_length segments n in
+    let field = reading_among segments 0 segments_legible no_segments (4 - length (numeral segments n)) 0 n is.0 is.1 in
     let end = append-nil (numeral segments n) in
-    cc
+    (field_length (numeral segments n) (omega arith), cc)
+
+-- what eight digits may mean: if any pair is written so, it is this one
+unfoldable pub guess_digits : List ℕ → Shown
+guess_digits digits = shown_by (reading segments None (take 4 digits)) (reading segments None (drop 4 digits))
 
 pub digits_undone : Undoes guess_digits digits_lit
 unfolding guess_digits
 digits_undone s h =
-    let lots = lots_in s h in
-    let best = right_aligned (best_in s) in
-    let second = right_aligned (second_in s) in
-    let width = width_le (best_in s) lots.0 in
-    let count = numeral_length segments (best_in s) in
-    let long : length best ≡ 4 = field_length (numeral segments (best_in s)) (omega arith) in
+    let best = reading_field (best_of s) (best_lot s h) in
+    let second = reading_field (second_of s) (second_lot s h) in
     let are = digits_are s in
-    let front = take_at best second 4 long in
-    let back = drop_at best second 4 long in
-    let first = reading_field (best_in s) lots.0 in
-    let next = reading_field (second_in s) lots.1 in
-    let whole : shown_of_numbers (reading segments 0 (take 4 (digits_lit s))) (reading segments 0 (drop 4 (digits_lit s))) ≡ shown_of_numbers (best_in s) (second_in s) = cc in
+    let front = take_at (field_of (best_of s)) (field_of (second_of s)) 4 best.0 in
+    let back = drop_at (field_of (best_of s)) (field_of (second_of s)) 4 best.0 in
+    let whole : shown_by (reading segments None (take 4 (digits_lit s))) (reading segments None (drop 4 (digits_lit s))) ≡ shown_by (best_of s) (second_of s) = cc in
     whole ∙ numbers_back s h
+
+-- the guess by its parts, as the code takes them
+pub guess_parts : (digits : List ℕ) (seen : Shown) (best second : Option ℕ) → length digits ≡ 8 → best ≡ reading segments None (take 4 digits) → second ≡ reading segments None (take (8 - 4) (drop 4 digits)) → seen ≡ shown_by best second → seen ≡ guess_digits digits
+unfolding guess_digits
+guess_parts digits seen best second eight is-best is-second is =
+    let rest = take_all 4 (drop 4 digits) (omega (arith, length-drop 4 digits)) in
+    cc

@@ -1,51 +1,42 @@
 -- The line panel: its code writes the line of a pair, and the pair is read off its line.
-use Rattle.std.proofs.Common.{◌≡◌, ℕ, ◌+◌, ◌-◌, ◌<◌, ◌≤◌, true, false, eqb, leb, List, [], ◌∷◌, ◌++◌, length, get_or, take, drop, set, replicate, sym, refl, ap, ◌∙◌, append_assoc, arith}
+use Rattle.std.proofs.Common.{◌≡◌, ℕ, ◌+◌, ◌-◌, ◌<◌, ◌≤◌, true, false, eqb, List, [], ◌∷◌, ◌++◌, length, get_or, take, drop, set, replicate, Some, None, Option, sym, refl, ap, ◌∙◌, append_assoc, arith}
 use Rattle.std.specs.Int.Digits.{digits_of}
 use Rattle.std.specs.List.{AllByRecursion as All}
-use Rattle.std.proofs.lemmas.Int.Digits.{length-digits_of-le, all_below_base_digits_of}
+use Rattle.std.proofs.lemmas.Int.Digits.{all_below_base_digits_of}
 use Rattle.std.proofs.ByRecursion.{All-map, All-weaker}
 use Rattle.std.proofs.lemmas.List.{take_at, drop_at, take_all, length-append, length-drop, length_push}
-use Rattle.std.proofs.lemmas.Bool.{and_parts, leb-true, ne_eqb}
+use Rattle.std.proofs.lemmas.Bool.{and_parts, ne_eqb}
 use Rattle.panel.specs.declared.shown.Shown.{Shown}
 use Rattle.panel.specs.declared.shown.Shown.TheVariants.{Blank, Best, Pair}
 use Rattle.panel.specs.Numerals.{numeral}
-use Rattle.panel.specs.Shows.{proper, is_lot}
+use Rattle.panel.specs.Shows.{proper, is_lot, best_of, second_of}
 use Rattle.panel.specs.Lines.{letters, padded, line_of}
-use Rattle.panel.specs.Inner.{inked, place, reading, shown_of_numbers, best_in, second_in, guess_line}
+use Rattle.panel.specs.Inner.{inked, place, reading, shown_by}
 use Rattle.panel.proofs.Writing.{inked_next, set_blank, numeral_length}
-use Rattle.panel.proofs.Readings.{Legible, below_is, reading_among, reading_numeral, place_after, numbers_back}
 use Rattle.panel.proofs.Meanings.{Undoes}
+use Rattle.panel.proofs.Readings.{Legible, legible_by, reading_blanks, reading_among, reading_numeral, place_after, numbers_back, lot_is, best_width, second_width}
 
--- a lot's number has at most four digits
-pub width_le : (n : ℕ) → n ≤ 4000 → length (digits_of 10 n) ≤ 4
-width_le n small = length-digits_of-le 10 4 n (omega arith) (omega arith)
-
-pub lots_in : (s : Shown) → proper s ≡ true → (best_in s ≤ 4000) × (second_in s ≤ 4000)
-lots_in Blank h = (omega arith, omega arith)
-lots_in (Best b) h = (leb-true b 4000 (and_parts (leb 1 b) (leb b 4000) h).1, omega arith)
-lots_in (Pair b s) h =
-    let lots = and_parts (is_lot b) (is_lot s) h in
-    (leb-true b 4000 (and_parts (leb 1 b) (leb b 4000) lots.0).1, leb-true s 4000 (and_parts (leb 1 s) (leb s 4000) lots.1).1)
-
-pub lots_short : (s : Shown) → proper s ≡ true → {best second : ℕ} → best ≡ best_in s → second ≡ second_in s → (length (digits_of 10 best) ≤ 4) × (length (digits_of 10 second) ≤ 4)
-lots_short s h {best} {second} is-best is-second =
-    let lots = lots_in s h in (width_le best (omega arith), width_le second (omega arith))
-
--- the line of two numbers, the first of them some
-abbrev pub line_for : ℕ → ℕ → List ℕ
-line_for b s = padded (numeral letters b ++ 44 ∷ numeral letters s)
-
-pub line_some : (s : Shown) → 0 < best_in s → line_of s ≡ line_for (best_in s) (second_in s)
+-- the line of a best lot alone, and of a pair
+pub line_none : (s : Shown) → None ≡ best_of s → line_of s ≡ replicate 9 32
 unfolding line_of
-line_some Blank h = absurd (omega arith)
-line_some (Best b) h = refl
-line_some (Pair b s) h = refl
+line_none Blank e = refl
+line_none (Best b) e = absurd cc
+line_none (Pair b n) e = absurd cc
 
-pub line_none : (s : Shown) → proper s ≡ true → best_in s ≤ 0 → line_of s ≡ replicate 9 32
+pub line_best : (s : Shown) (b : ℕ) → Some b ≡ best_of s → None ≡ second_of s → line_of s ≡ padded (numeral letters b ++ 44 ∷ [])
 unfolding line_of
-line_none Blank h n = refl
-line_none (Best b) h n = absurd (let one = leb-true 1 b (and_parts (leb 1 b) (leb b 4000) h).0 in omega arith)
-line_none (Pair b s) h n = absurd (let one = leb-true 1 b (and_parts (leb 1 b) (leb b 4000) (and_parts (is_lot b) (is_lot s) h).0).0 in omega arith)
+line_best Blank b e o = absurd cc
+line_best (Best a) b e o = let same : a ≡ b = cc in ap (λ z. padded (numeral letters z ++ 44 ∷ [])) same
+line_best (Pair a n) b e o = absurd cc
+
+pub line_pair : (s : Shown) (b n : ℕ) → Some b ≡ best_of s → Some n ≡ second_of s → line_of s ≡ padded (numeral letters b ++ 44 ∷ numeral letters n)
+unfolding line_of
+line_pair Blank b n e o = absurd cc
+line_pair (Best a) b n e o = absurd cc
+line_pair (Pair a z) b n e o =
+    let same : a ≡ b = cc in
+    let other : z ≡ n = cc in
+    ap (λ y. padded (numeral letters y ++ 44 ∷ numeral letters z)) same ∙ ap (λ y. padded (numeral letters b ++ 44 ∷ numeral letters y)) other
 
 -- best, comma and second, written one after the other
 pub line_written : (t u : List ℕ) (w v : ℕ) → length t ≡ w → length u ≡ v → w ≤ 4 → v ≤ 4 → inked (set (inked (replicate 9 32) w t) w 44) (w + 1 + v) u ≡ padded (t ++ 44 ∷ u)
@@ -59,18 +50,34 @@ line_written t u w v is-w is-v short-t short-u =
     let rest : 9 - length t - 1 - length u ≡ 9 - length (t ++ 44 ∷ u) = omega (arith, length-append t (44 ∷ u)) in
     cc
 
-pub best_written : (s : Shown) → proper s ≡ true → (best second w v : ℕ) (a b : List ℕ) → best ≡ best_in s → second ≡ second_in s → 0 < best → w ≡ length (digits_of 10 best) → v ≡ length (digits_of 10 second) → a ≡ inked (replicate 9 32) w (numeral letters best) → b ≡ inked (set a w 44) (w + 1 + v) (numeral letters second) → b ≡ line_of s
-best_written s h best second w v a b is-best is-second some is-w is-v is-a is_b =
-    let short = lots_short s h is-best is-second in
-    let line = line_written (numeral letters best) (numeral letters second) w v (numeral_length letters best ∙ sym is-w) (numeral_length letters second ∙ sym is-v) (omega arith) (omega arith) in
-    let shown = line_some s (omega arith) in
+-- best and comma
+pub best_written : (t : List ℕ) (w : ℕ) → length t ≡ w → w ≤ 4 → set (inked (replicate 9 32) w t) w 44 ≡ padded (t ++ 44 ∷ [])
+best_written t w is-w short =
+    let best = inked_next 32 [] t 9 (omega arith) in
+    let comma = set_blank 32 44 t (9 - length t) (omega arith) in
+    let start : 0 + length t ≡ w = omega arith in
+    let rest : 9 - length t - 1 ≡ 9 - length (t ++ 44 ∷ []) = omega (arith, length_push t 44) in
+    cc
+
+-- the code's two draws
+pub best_drawn : (s : Shown) → proper s ≡ true → (b w : ℕ) (a : List ℕ) → Some b ≡ best_of s → None ≡ second_of s → w ≡ length (digits_of 10 b) → a ≡ inked (replicate 9 32) w (numeral letters b) → set a w 44 ≡ line_of s
+best_drawn s h b w a is-b is-n is-w is-a =
+    let short = best_width s h b is-b in
+    ap (λ z. set z w 44) is-a ∙ best_written (numeral letters b) w (numeral_length letters b ∙ sym is-w) (omega arith) ∙ sym (line_best s b is-b is-n)
+
+pub pair_drawn : (s : Shown) → proper s ≡ true → (b n w v : ℕ) (a z : List ℕ) → Some b ≡ best_of s → Some n ≡ second_of s → w ≡ length (digits_of 10 b) → v ≡ length (digits_of 10 n) → a ≡ inked (replicate 9 32) w (numeral letters b) → z ≡ inked (set a w 44) (w + 1 + v) (numeral letters n) → z ≡ line_of s
+pair_drawn s h b n w v a z is-b is-n is-w is-v is-a is-z =
+    let short = best_width s h b is-b in
+    let short-too = second_width s h n is-n in
+    let line = line_written (numeral letters b) (numeral letters n) w v (numeral_length letters b ∙ sym is-w) (numeral_length letters n ∙ sym is-v) (omega arith) (omega arith) in
+    let shown = line_pair s b n is-b is-n in
     cc
 
 letters_legible : Legible letters
 unfolding place
-letters_legible = below_is (λ d. place letters (get_or letters d 0)) (λ d. d) refl
+letters_legible = legible_by letters refl
 
-no_letter : (place letters 32 ≡ 10) × (place letters 44 ≡ 10)
+no_letter : (place letters 32 ≡ None) × (place letters 44 ≡ None)
 unfolding place
 no_letter = (refl, refl)
 
@@ -78,41 +85,58 @@ no_comma : (n : ℕ) → All (λ x. eqb x 44 ≡ false) (numeral letters n)
 no_comma n =
     All-map (λ x. eqb x 44 ≡ false) (λ d. get_or letters d 0) (digits_of 10 n)
     (All-weaker (λ d. d < 10) (λ d. eqb (get_or letters d 0) 44 ≡ false)
-    (λ d h. ne_eqb (get_or letters d 0) 44 (λ e. let none = sym no_letter.1 ∙ ap (place letters) (sym e) ∙ letters_legible d h in omega arith))
+    (λ d h. ne_eqb (get_or letters d 0) 44 (λ e. let none = sym no_letter.1 ∙ ap (place letters) (sym e) ∙ letters_legible d h in absurd cc))
     (digits_of 10 n) (all_below_base_digits_of 10 n (omega arith)))
 
-skip_comma : (cells : List ℕ) → reading letters 0 (44 ∷ cells) ≡ reading letters 0 cells
+skip_comma : (cells : List ℕ) → reading letters None (44 ∷ cells) ≡ reading letters None cells
 unfolding reading place
 skip_comma cells = refl
 
--- two numbers are read off their line
-guess_line_lem : (b s k : ℕ) → b ≤ 4000 → s ≤ 4000 → guess_line ((numeral letters b ++ 44 ∷ numeral letters s) ++ replicate k 32) ≡ shown_of_numbers b s
+-- what a line with its comma here may mean
+abbrev pub guess_at : List ℕ → Option ℕ → Shown
+guess_at text None = Blank
+guess_at text (Some comma) = shown_by (reading letters None (take comma text)) (reading letters None (drop comma text))
+
+-- what nine bytes may mean: if any pair is written so, it is this one
+unfoldable pub guess_line : List ℕ → Shown
+guess_line text = guess_at text (place text 44)
+
+-- a best and what is read behind its comma are read off their line
+guess_line_lem : (b : ℕ) (t : List ℕ) (o : Option ℕ) (k : ℕ) → 0 < b → b ≤ 4000 → reading letters None (t ++ replicate k 32) ≡ o → guess_line ((numeral letters b ++ 44 ∷ t) ++ replicate k 32) ≡ shown_by (Some b) o
 unfolding guess_line
-guess_line_lem b s k small_b small-s =
+guess_line_lem b t o k some small second =
     let best = numeral letters b in
-    let rest = 44 ∷ (numeral letters s ++ replicate k 32) in
-    let group = append_assoc best (44 ∷ numeral letters s) (replicate k 32) in
-    let at = place_after 44 best (numeral letters s ++ replicate k 32) (no_comma b) refl in
+    let rest = 44 ∷ (t ++ replicate k 32) in
+    let group = append_assoc best (44 ∷ t) (replicate k 32) in
+    let at = place_after 44 best (t ++ replicate k 32) (no_comma b) refl in
     let front = take_at best rest (length best) refl in
     let back = drop_at best rest (length best) refl in
-    let first = reading_numeral letters letters_legible b small_b in
-    let skip = skip_comma (numeral letters s ++ replicate k 32) in
-    let second = reading_among letters 32 letters_legible no_letter.0 0 k s small-s in
+    let first = reading_numeral letters letters_legible b some small in
+    let skip = skip_comma (t ++ replicate k 32) in
     cc
 
 pub line_undone : Undoes guess_line line_of
 unfolding line_of guess_line reading place
 line_undone Blank h = refl
 line_undone (Best b) h =
-    guess_line_lem b 0 (9 - length (numeral letters b ++ 44 ∷ [])) (lots_in (Best b) h).0 (omega arith) ∙ numbers_back (Best b) h
+    let lot = lot_is b h in
+    guess_line_lem b [] None (9 - length (numeral letters b ++ 44 ∷ [])) lot.0 lot.1 (reading_blanks letters 32 no_letter.0 (9 - length (numeral letters b ++ 44 ∷ [])) None) ∙ numbers_back (Best b) h
 line_undone (Pair b s) h =
-    let lots = lots_in (Pair b s) h in
-    guess_line_lem b s (9 - length (numeral letters b ++ 44 ∷ numeral letters s)) lots.0 lots.1 ∙ numbers_back (Pair b s) h
+    let lots = and_parts (is_lot b) (is_lot s) h in
+    let lot = lot_is b lots.0 in
+    let next = lot_is s lots.1 in
+    let k = 9 - length (numeral letters b ++ 44 ∷ numeral letters s) in
+    guess_line_lem b (numeral letters s) (Some s) k lot.0 lot.1 (reading_among letters 32 letters_legible no_letter.0 0 k s next.0 next.1) ∙ numbers_back (Pair b s) h
 
 -- the guess by its parts, as the code takes them
-pub guess_parts : (text : List ℕ) (comma best second : ℕ) → length text ≡ 9 → comma ≡ place text 44 → best ≡ reading letters 0 (take (comma - 0) text) → second ≡ reading letters 0 (take (9 - comma) (drop comma text)) → shown_of_numbers best second ≡ guess_line text
+pub guess_none : (text : List ℕ) → None ≡ place text 44 → Blank ≡ guess_line text
 unfolding guess_line
-guess_parts text comma best second nine at first next =
-    let start : comma - 0 ≡ comma = omega arith in
+guess_none text at = ap (guess_at text) at
+
+pub guess_parts : (text : List ℕ) (comma : ℕ) (seen : Shown) (best second : Option ℕ) → length text ≡ 9 → Some comma ≡ place text 44 → best ≡ reading letters None (take comma text) → second ≡ reading letters None (take (9 - comma) (drop comma text)) → seen ≡ shown_by best second → seen ≡ guess_line text
+unfolding guess_line
+guess_parts text comma seen best second nine at is-best is-second is =
     let rest = take_all (9 - comma) (drop comma text) (omega (arith, length-drop comma text)) in
-    cc
+    let here = ap (guess_at text) at in
+    let parts : seen ≡ guess_at text (Some comma) = cc in
+    parts ∙ here

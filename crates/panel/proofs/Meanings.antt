@@ -1,5 +1,5 @@
 -- What cells mean, for every way to write pairs that can be undone: what was written means itself, and what cannot be written means blank.
-use Rattle.std.proofs.Common.{◌≡◌, ℕ, zero, suc, ◌≤◌, true, cond, eqb, ◌⊎◌, List, [], ◌∷◌, map, Some, None, Option, sym, refl, ap, ◌∙◌, subst, inl, inr, ⊎_elim, arith}
+use Rattle.std.proofs.Common.{◌≡◌, ℕ, zero, suc, ◌≤◌, true, ◌⊎◌, List, [], ◌∷◌, map, Some, None, Option, sym, refl, ap, ◌∙◌, subst, inl, inr, ⊎_elim, arith}
 use mathlib.Core.List.Memᴰ
 use mathlib.Core.List.{Memᴰ}
 use Rattle.std.specs.List.{flat_map, AllByRecursion as All}
@@ -9,7 +9,7 @@ use Rattle.std.proofs.lemmas.Slice.Eq.{bytes_eq-Decides}
 use Rattle.std.proofs.lemmas.Bool.{cases_eq, cases_Bool, both_ways, cond-true, cond-false, cond_both, and_from, and_parts, le-leb, leb-true}
 use Rattle.panel.specs.declared.shown.Shown.{Shown}
 use Rattle.panel.specs.declared.shown.Shown.TheVariants.{Blank, Best, Pair}
-use Rattle.panel.specs.Inner.{shown_of_numbers}
+use Rattle.panel.specs.Inner.{shown_by}
 use Rattle.panel.specs.Shows.{is_lot, proper, pair_of, told, up_to, pairs_up_to, written, meaning}
 
 -- lots and pairs, listed
@@ -103,7 +103,7 @@ only_guess guess write cells u =
     All-weaker (λ t. proper t ≡ true) (λ t. write t ≡ cells → t ≡ guess cells) (λ t h e. sym (u t h) ∙ ap guess e) (pairs_up_to 4000) pairs_proper
 
 -- a guess that is written as these cells is what they mean
-pub means_guess : (guess : List ℕ → Shown) (write : Shown → List ℕ) → Undoes guess write → (cells : List ℕ) (s : Shown) → s ≡ guess cells → proper s ≡ true → write s ≡ cells → s ≡ meaning write cells
+means_guess : (guess : List ℕ → Shown) (write : Shown → List ℕ) → Undoes guess write → (cells : List ℕ) (s : Shown) → s ≡ guess cells → proper s ≡ true → write s ≡ cells → s ≡ meaning write cells
 unfolding meaning
 means_guess guess write u cells s is h e =
     let only = All-weaker (λ t. write t ≡ cells → t ≡ guess cells) (λ t. write t ≡ cells → t ≡ s) (λ t f w. f w ∙ sym is) (pairs_up_to 4000) (only_guess guess write cells u) in
@@ -113,7 +113,7 @@ means_guess guess write u cells s is h e =
     (pair_listed s h)
 
 -- where it is not, they mean blank
-pub means_blank : (guess : List ℕ → Shown) (write : Shown → List ℕ) → Undoes guess write → (cells : List ℕ) (s : Shown) → s ≡ guess cells → (write s ≡ cells → ⊥) → Blank ≡ meaning write cells
+means_blank : (guess : List ℕ → Shown) (write : Shown → List ℕ) → Undoes guess write → (cells : List ℕ) (s : Shown) → s ≡ guess cells → (write s ≡ cells → ⊥) → Blank ≡ meaning write cells
 unfolding meaning
 means_blank guess write u cells s is n =
     sym (written_none write cells (pairs_up_to 4000)
@@ -123,9 +123,32 @@ means_blank guess write u cells s is n =
 pub means_written : (guess : List ℕ → Shown) (write : Shown → List ℕ) → Undoes guess write → (cells : List ℕ) (s : Shown) → proper s ≡ true → cells ≡ write s → meaning write cells ≡ s
 means_written guess write u cells s h e = sym (means_guess guess write u cells s (sym (u s h) ∙ ap guess (sym e)) h (sym e))
 
+-- a guess is what the cells mean, unless they mean blank
+pub means_guess_or_blank : (guess : List ℕ → Shown) (write : Shown → List ℕ) → Undoes guess write → (cells : List ℕ) (s : Shown) → s ≡ guess cells → proper s ≡ true → (meaning write cells ≡ Blank) ⊎ (s ≡ meaning write cells)
+means_guess_or_blank guess write u cells s is h =
+    ⊎_elim (λ hit. inr (means_guess guess write u cells s is h ((bytes_eq-Decides (write s) cells).0 hit)))
+    (λ miss. inl (sym (means_blank guess write u cells s is (λ e. both_ways _ miss ((bytes_eq-Decides (write s) cells).1 e)))))
+    (cases_Bool (bytes_eq (write s) cells))
+
+-- what cells mean is written as these cells, unless they mean blank
+written_so : (write : Shown → List ℕ) (cells : List ℕ) (list : List Shown) → (written write cells list ≡ Blank) ⊎ (write (written write cells list) ≡ cells)
+unfolding written
+written_so write cells [] = inl refl
+written_so write cells (t ∷ rest) =
+    ⊎_elim (λ hit. let here = cond-true (bytes_eq (write t) cells) t (written write cells rest) hit in inr (ap write here ∙ (bytes_eq-Decides (write t) cells).0 hit))
+    (λ miss. let later = cond-false (bytes_eq (write t) cells) t (written write cells rest) miss in ⊎_elim (λ b. inl (later ∙ b)) (λ e. inr (ap write later ∙ e)) (written_so write cells rest))
+    (cases_Bool (bytes_eq (write t) cells))
+
+-- where the one that they may mean is not written as these cells, they mean blank
+pub means_not : (write : Shown → List ℕ) (cells : List ℕ) (s : Shown) → (meaning write cells ≡ Blank) ⊎ (s ≡ meaning write cells) → (write s ≡ cells → ⊥) → Blank ≡ meaning write cells
+unfolding meaning
+means_not write cells s may n =
+    ⊎_elim (λ b. sym b) (λ is. ⊎_elim (λ b. sym b) (λ e. absurd (n (ap write is ∙ e))) (written_so write cells (pairs_up_to 4000))) may
+
 pub told_proper : (best : ℕ) (second : Option ℕ) → proper (told best second) ≡ true
 told_proper best second =
     cond_both (proper (pair_of best second)) (pair_of best second) Blank (λ s. proper s ≡ true) (λ h. h) (λ h. refl)
 
-pub from_proper : (best second : ℕ) → proper (shown_of_numbers best second) ≡ true
-from_proper best second = told_proper best (cond (eqb second 0) None (Some second))
+pub by_proper : (best second : Option ℕ) → proper (shown_by best second) ≡ true
+by_proper None second = refl
+by_proper (Some best) second = told_proper best second

@@ -10,6 +10,14 @@ use Rattle.panel.specs.Inner.{inked}
 pub numeral_length : (g : List ℕ) (n : ℕ) → length (numeral g n) ≡ length (digits_of 10 n)
 numeral_length g n = length-map (digits_of 10 n) (λ d. get_or g d 0)
 
+pub some_digits : (n : ℕ) → 0 < length (digits_of 10 n) → 0 < n
+some_digits zero h = absurd (omega arith)
+some_digits (suc n) h = omega arith
+
+pub no_digits : (n : ℕ) → length (digits_of 10 n) ≤ 0 → n ≡ 0
+no_digits zero h = refl
+no_digits (suc n) h = absurd (omega (arith, length-digits_of_step 10 (suc n) (omega arith) (omega arith)))
+
 pub numeral_step : (g : List ℕ) (n : ℕ) → 0 < n → numeral g n ≡ numeral g (n / 10) ++ get_or g (n % 10) 0 ∷ []
 numeral_step g n h =
     ap (map (λ d. get_or g d 0)) (digits_of_step 10 n (omega arith) h) ∙ map_push (λ d. get_or g d 0) (digits_of 10 (n / 10)) (n % 10)

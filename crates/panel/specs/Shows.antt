@@ -24,6 +24,18 @@ pair_of best (Some second) = Pair best second
 abbrev pub told : ℕ → Option ℕ → Shown
 told best second = cond (proper (pair_of best second)) (pair_of best second) Blank
 
+-- the best lot that is shown, if any is
+abbrev pub best_of : Shown → Option ℕ
+best_of Blank = None
+best_of (Best best) = Some best
+best_of (Pair best second) = Some best
+
+-- the second that is shown, if any is
+abbrev pub second_of : Shown → Option ℕ
+second_of Blank = None
+second_of (Best best) = None
+second_of (Pair best second) = Some second
+
 -- 1 to n
 unfoldable pub up_to : ℕ → List ℕ
 up_to zero = []

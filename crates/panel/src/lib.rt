@@ -9,10 +9,13 @@ ghost use Rattle.panel.specs.Shows.{told};
 use shown::Shown;
 
 pub mod digit_panel;
+pub mod face_panel;
 pub mod kept;
 pub mod line_panel;
 mod numeral;
 pub mod shown;
+#[cfg(test)]
+mod tests;
 
 /// A panel. What it means is read off its bytes or digits alone.
 pub trait Panel {

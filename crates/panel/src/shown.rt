@@ -1,6 +1,6 @@
 ghost use Rattle.std.specs.Prelude.{◌≡◌};
-ghost use Rattle.panel.specs.Shows.{told};
-ghost use Rattle.panel.specs.Inner.{best_in, second_in, shown_of_numbers};
+ghost use Rattle.panel.specs.Shows.{is_lot, told, best_of, second_of};
+ghost use Rattle.panel.specs.Inner.{shown_by};
 
 /// What a panel shows: nothing, a best lot, or a best lot and a second.
 #[derive(Clone, Copy, PartialEq, Eq, Debug)]
@@ -10,45 +10,49 @@ pub enum Shown {
     Pair(u32, u32),
 }
 
+// Whether a lot may have this number.
+fn is_lot(n: u32) -> bool
+    ensures { result ≡ is_lot n }
+{
+    (1..=4000).contains(&n)
+}
+
 impl Shown {
     /// What a panel shows that is told these numbers: blank if one is outside 1 to 4,000.
     pub fn of(best: u32, second: Option<u32>) -> Shown
         ensures { result ≡ told best second }
     {
-        if best < 1 || best > 4000 {
-            return Shown::Blank;
-        }
         match second {
-            None => Shown::Best(best),
-            Some(next) => {
-                if next < 1 || next > 4000 {
-                    return Shown::Blank;
-                }
-                Shown::Pair(best, next)
-            }
+            None if is_lot(best) => Shown::Best(best),
+            Some(next) if is_lot(best) && is_lot(next) => Shown::Pair(best, next),
+            _ => Shown::Blank,
         }
     }
 
-    // The best and the second, with nought for none.
-    pub(crate) fn numbers(self) -> (u32, u32)
-        ensures best { result.0 ≡ best_in self }
-        ensures second { result.1 ≡ second_in self }
+    /// The best lot that is shown, if any is.
+    pub fn best(&self) -> Option<u32>
+        ensures { result ≡ best_of self.now }
     {
-        match self {
-            Shown::Blank => (0, 0),
-            Shown::Best(best) => (best, 0),
-            Shown::Pair(best, second) => (best, second),
+        match *self {
+            Shown::Blank => None,
+            Shown::Best(best) | Shown::Pair(best, _) => Some(best),
         }
     }
 
-    // The other way round.
-    pub(crate) fn from_numbers(best: u32, second: u32) -> Shown
-        ensures { result ≡ shown_of_numbers best second }
+    /// The second that is shown, if any is.
+    pub fn second(&self) -> Option<u32>
+        ensures { result ≡ second_of self.now }
     {
-        if second == 0 {
-            Shown::of(best, None)
-        } else {
-            Shown::of(best, Some(second))
+        match *self {
+            Shown::Pair(_, second) => Some(second),
+            _ => None,
         }
+    }
+
+    // What is shown by numbers that were read off a panel.
+    pub(crate) fn by(best: Option<u32>, second: Option<u32>) -> Shown
+        ensures { result ≡ shown_by best second }
+    {
+        best.map_or(Shown::Blank, |best| Shown::of(best, second))
     }
 }

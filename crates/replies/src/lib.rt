@@ -1,19 +1,20 @@
 //! Reply lines of the hall programs, added to what is written so far.
 #![tactic(auto)]
 
-ghost use Rattle.std.specs.Prelude.{◌≡◌, ◌++◌, map, decimal, OnOk};
+ghost use Rattle.std.specs.Prelude.{◌≡◌, ℕ, List, ◌++◌, map, Some, OnOk};
 ghost use Rattle.bits.specs.Punching.{letter};
-ghost use Rattle.replies.specs.Replies.{ok_line, refused_line, sheet_line, lots_line, pair_line};
+ghost use Rattle.replies.specs.Replies.{ok_line, refused_line, sheet_line, pair_line};
 
 use bits::tape::Tape;
 use panel::shown::Shown;
 use std::alloc::AllocError;
+use std::fmt::Display;
 
-/// Adds a number in decimal.
-fn push_number(out: &mut Vec<u8>, n: u32) -> Result<(), AllocError>
-    ensures { OnOk result (out.new.items ≡ out.old.items ++ decimal n) }
+/// Adds a text.
+fn push_text<D: Display + Drop>(out: &mut Vec<u8>, text: D) -> Result<(), AllocError>
+    ensures { (bytes : List ℕ) → D.output text ≡ Some bytes → OnOk result (out.new.items ≡ out.old.items ++ bytes) }
 {
-    let text = format!(in *out.allocator(); "{n}")?;
+    let text = text.to_string(*out.allocator())?;
     out.extend_from_slice(text.as_bytes())
 }
 
@@ -39,18 +40,14 @@ fn push_letters<T: Tape>(out: &mut Vec<u8>, tape: &T) -> Result<(), AllocError>
 pub fn reply_ok(out: &mut Vec<u8>, lots: u32) -> Result<(), AllocError>
     ensures { OnOk result (out.new.items ≡ out.old.items ++ ok_line lots) }
 {
-    out.extend_from_slice(b"ok,")?;
-    push_number(out, lots)?;
-    out.extend_from_slice(b"\n")
+    push_text(out, format_args!("ok,{lots}\n"))
 }
 
 /// `refused,` and the number of a refusal.
 pub fn reply_refused(out: &mut Vec<u8>, number: u32) -> Result<(), AllocError>
     ensures { OnOk result (out.new.items ≡ out.old.items ++ refused_line number) }
 {
-    out.extend_from_slice(b"refused,")?;
-    push_number(out, number)?;
-    out.extend_from_slice(b"\n")
+    push_text(out, format_args!("refused,{number}\n"))
 }
 
 /// `sheet,` and the bits of a tape as letters.
@@ -62,23 +59,11 @@ pub fn reply_sheet<T: Tape>(out: &mut Vec<u8>, tape: &T) -> Result<(), AllocErro
     out.extend_from_slice(b"\n")
 }
 
-fn reply_lots(out: &mut Vec<u8>, best: u32, second: u32) -> Result<(), AllocError>
-    ensures { OnOk result (out.new.items ≡ out.old.items ++ lots_line best second) }
-{
-    out.extend_from_slice(b"pair,")?;
-    push_number(out, best)?;
-    out.extend_from_slice(b",")?;
-    push_number(out, second)?;
-    out.extend_from_slice(b"\n")
-}
-
 /// `pair,` and the two lots that a panel shows, 0 for no second.
 pub fn reply_pair(out: &mut Vec<u8>, shown: Shown) -> Result<(), AllocError>
     ensures { OnOk result (out.new.items ≡ out.old.items ++ pair_line shown) }
 {
-    match shown {
-        Shown::Blank => reply_lots(out, 0, 0),
-        Shown::Best(best) => reply_lots(out, best, 0),
-        Shown::Pair(best, second) => reply_lots(out, best, second),
-    }
+    let best = shown.best().unwrap_or(0);
+    let second = shown.second().unwrap_or(0);
+    push_text(out, format_args!("pair,{best},{second}\n"))
 }

@@ -1,7 +1,5 @@
-use Rattle.std.proofs.Common.{false, [], ◌∷◌, ◌++◌, map, vec_items, unwrap_or, sym, refl, ap, ◌∙◌, arith}
-use Rattle.std.proofs.lemmas.List.{append-nil, take_all}
+use Rattle.std.proofs.Common.{false, [], ◌∷◌, vec_items, unwrap_or, refl, ap, ◌∙◌, arith}
 use Rattle.std.proofs.lemmas.Slice.{pushed}
-use Rattle.bits.specs.Punching.{letter}
 use Rattle.replies.proofs.Writing.{letter_more}
 use Rattle.replies.proofs.push_letters.Goals as goal
 
@@ -10,11 +8,3 @@ loop-i-preserved g c =
     let bits = g.T.Tape.bits c.args.tape.now in
     letter_more (vec_items c.args.out.now) (vec_items c.loop-i.out) (vec_items c.push.new.self) bits c.loop-i.i c.letter_of.result c.unwrap_or-one.result (omega (arith, c.len-i-end.ensures.is)) c.loop-i.invariant
     (c.unwrap_or-one.ensures ∙ ap (λ z. unwrap_or z false) c.get.ensures) c.letter_of.ensures (pushed (c.letter_of.result ∷ []) refl c.in_ok-push.was c.push.ensures.items)
-
-pub loop-i-init : goal.loop-i-init
-loop-i-init g c = sym (append-nil (vec_items c.args.out.now))
-
-pub returns : goal.returns
-returns g c =
-    let bits = g.T.Tape.bits c.args.tape.now in
-    c.loop-i.invariant ∙ ap (λ z. vec_items c.args.out.now ++ map letter z) (take_all c.loop-i.i bits (omega (arith, c.len-i-end.ensures.is)))
