@@ -14,6 +14,13 @@ use bits::punch::Punch;
 use casting::{Lots, cast};
 use keys::key::Key;
 
+/// The places of the book, the bits of the punch, and the working numbers that 4,000 lots need.
+pub const PLACES: usize = 4_000;
+
+pub const BITS: usize = 14_000;
+
+pub const NUMBERS: usize = 16_004;
+
 /// A book: lots in order, numbered from 1, each with one key. It keeps the keys in the list that it is lent.
 #[derive(Drop)]
 pub struct Book<'a, K> {

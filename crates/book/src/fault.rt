@@ -6,7 +6,7 @@ ghost use Rattle.book.specs.Faults.{told, carries};
 use casting::CastFault;
 
 /// Why a book declines a call.
-#[derive(Clone, Copy)]
+#[derive(Clone, Copy, PartialEq, Eq, Debug)]
 pub enum BookFault {
     /// The kind refuses the fields of a key.
     BadFields,

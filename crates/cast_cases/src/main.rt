@@ -3,7 +3,7 @@
 
 use anyhow::anyhow;
 use bits::punch::{LetteredPunch, Punch};
-use book::book::Book;
+use book::book::{BITS, Book, NUMBERS, PLACES};
 use book::fault::BookFault;
 use casting::CastFault;
 use keys::key::Key;
@@ -11,13 +11,6 @@ use keys::price::Price;
 use keys::row::ClipRow;
 use std::alloc::{AllocError, Global};
 use std::io::Write;
-
-/// The places of a book, the bits of a punch, and the working numbers that 4,000 lots need.
-const PLACES: usize = 4_000;
-
-const BITS: usize = 14_000;
-
-const NUMBERS: usize = 16_004;
 
 /// The numbers between the commas of a text; none if the text is empty.
 fn numbers(heap: Global, text: &str) -> anyhow::Result<Vec<u32>> {

@@ -2,16 +2,9 @@
 #![tactic(auto)]
 
 use bits::punch::{LetteredPunch, Punch};
-use book::book::Book;
+use book::book::{BITS, Book, NUMBERS, PLACES};
 use keys::price::Price;
 use std::io::Write;
-
-/// The places of the book, the bits of the punch, and the working numbers that 4,000 lots need.
-const PLACES: usize = 4_000;
-
-const BITS: usize = 14_000;
-
-const NUMBERS: usize = 16_004;
 
 /// Adds the prices on standard input to the book, and tells of each line that is none.
 fn read_prices(rt: &HostRuntime, book: &mut Book<'_, Price>) -> anyhow::Result<()> {

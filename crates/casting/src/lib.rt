@@ -33,7 +33,7 @@ pub trait Lots {
 }
 
 /// Why nothing is cast.
-#[derive(Clone, Copy)]
+#[derive(Clone, Copy, PartialEq, Eq, Debug)]
 pub enum CastFault {
     /// There are fewer than 4(n + 1) working numbers.
     FewNumbers,

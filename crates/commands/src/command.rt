@@ -27,7 +27,7 @@ pub enum Command {
 const MOST: usize = 64;
 
 fn add_of<K: Key>(numbers: &[u32]) -> Option<Command>
-    ensures { option_map asks result ≡ add_by K.Key.arity numbers.now }
+    ensures { option_map asks result ≡ add_by K.Key.FIELDS numbers.now }
 {
     has_count::<K>(numbers).then(|| Command::Add(Fields::new(numbers)))
 }
@@ -42,7 +42,7 @@ fn strike_of(numbers: &[u32]) -> Option<Command>
 }
 
 fn new_key_of<K: Key>(numbers: &[u32]) -> Option<Command>
-    ensures { option_map asks result ≡ new_key_by K.Key.arity numbers.now }
+    ensures { option_map asks result ≡ new_key_by K.Key.FIELDS numbers.now }
 {
     let [lot, fields @ ..] = numbers else {
         return None;
@@ -70,7 +70,7 @@ fn page_of(numbers: &[u32]) -> Option<Command>
 
 /// The command of a letter and numbers, for keys of the kind `K`.
 fn command_by<K: Key>(letter: char, numbers: &[u32]) -> Option<Command>
-    ensures { option_map asks result ≡ asked_by K.Key.arity letter numbers.now }
+    ensures { option_map asks result ≡ asked_by K.Key.FIELDS letter numbers.now }
 {
     match letter {
         'a' => add_of::<K>(numbers),
@@ -84,7 +84,7 @@ fn command_by<K: Key>(letter: char, numbers: &[u32]) -> Option<Command>
 
 /// The command of a line's first field, which is to be one letter, and of the numbers behind it.
 fn lettered<K: Key>(field: &[u8], numbers: &[u32]) -> Option<Command>
-    ensures { option_map asks result ≡ lettered_by K.Key.arity field.now numbers.now }
+    ensures { option_map asks result ≡ lettered_by K.Key.FIELDS field.now numbers.now }
 {
     let [letter] = field else {
         return None;
@@ -94,7 +94,7 @@ fn lettered<K: Key>(field: &[u8], numbers: &[u32]) -> Option<Command>
 
 /// The command on a line, for keys of the kind `K`; `None` where the line is malformed.
 pub fn command_of<K: Key>(line: &[u8]) -> Option<Command>
-    ensures { option_map asks result ≡ asked_of K.Key.arity line.now }
+    ensures { option_map asks result ≡ asked_of K.Key.FIELDS line.now }
 {
     if line.len() > MOST {
         return None;

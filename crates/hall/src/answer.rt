@@ -65,8 +65,8 @@ impl<K: Key + Copy> Hall<'_, K> {
 
     /// Performs a command, and adds the reply.
     fn perform(&mut self, command: &Command, out: &mut Vec<u8>) -> Result<(), AllocError>
-        ensures done { Done (terms_in K.Key.made K.Key.at_least K.Key.arity self.old) self.old self.new (Some (asks command.now)) }
-        ensures replied { Replied (terms_in K.Key.made K.Key.at_least K.Key.arity self.old) self.old (Some (asks command.now)) result out.old.items out.new.items }
+        ensures done { Done (terms_in K.Key.made K.Key.at_least K.Key.FIELDS self.old) self.old self.new (Some (asks command.now)) }
+        ensures replied { Replied (terms_in K.Key.made K.Key.at_least K.Key.FIELDS self.old) self.old (Some (asks command.now)) result out.old.items out.new.items }
         ensures kept { Kept self.old self.new }
     {
         match command {
@@ -83,8 +83,8 @@ impl<K: Key + Copy> Hall<'_, K> {
     /// Performs the command of a line, and adds the reply line to `out`; a malformed line is refused with 1.
     /// Where there is no memory for the reply, the command is performed all the same.
     pub fn answer(&mut self, line: &[u8], out: &mut Vec<u8>) -> Result<(), AllocError>
-        ensures done { Done (terms_in K.Key.made K.Key.at_least K.Key.arity self.old) self.old self.new (asked_of K.Key.arity line.now) }
-        ensures replied { Replied (terms_in K.Key.made K.Key.at_least K.Key.arity self.old) self.old (asked_of K.Key.arity line.now) result out.old.items out.new.items }
+        ensures done { Done (terms_in K.Key.made K.Key.at_least K.Key.FIELDS self.old) self.old self.new (asked_of K.Key.FIELDS line.now) }
+        ensures replied { Replied (terms_in K.Key.made K.Key.at_least K.Key.FIELDS self.old) self.old (asked_of K.Key.FIELDS line.now) result out.old.items out.new.items }
         ensures kept { Kept self.old self.new }
     {
         match command_of::<K>(line) {

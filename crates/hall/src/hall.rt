@@ -7,16 +7,9 @@ ghost use Rattle.hall.specs.Halls.{terms};
 ghost use Rattle.hall.specs.States.{lots_in, bits_in, terms_in};
 
 use bits::punch::LetteredPunch;
-use book::book::Book;
+use book::book::{BITS, Book, NUMBERS, PLACES};
 use keys::key::Key;
 use std::alloc::{AllocError, Global};
-
-/// The places of the book, the bits of the punch, and the working numbers that 4,000 lots need.
-pub const PLACES: usize = 4_000;
-
-pub const BITS: usize = 14_000;
-
-pub const NUMBERS: usize = 16_004;
 
 /// The most bytes of an input that count.
 pub const MOST: usize = 65_536;
@@ -34,7 +27,7 @@ impl<'a, K: Key + Copy> Hall<'a, K> {
     pub fn new(list: &'a mut [K], text: &'a mut [u8], work: &'a mut [u32]) -> Hall<'a, K>
         ensures lots { lots_in result ≡ [] }
         ensures bits { bits_in result ≡ [] }
-        ensures terms { terms_in K.Key.made K.Key.at_least K.Key.arity result ≡ terms K.Key.made K.Key.at_least K.Key.arity (room_for (length list.old)) (letter_room text.old) (length work.old) }
+        ensures terms { terms_in K.Key.made K.Key.at_least K.Key.FIELDS result ≡ terms K.Key.made K.Key.at_least K.Key.FIELDS (room_for (length list.old)) (letter_room text.old) (length work.old) }
         ensures lender { result.book.list.ghost_name ≡ list.entry.ghost_name }
         ensures home { result.punch.text.ghost_name ≡ text.entry.ghost_name }
         ensures numbers_home { result.work.ghost_name ≡ work.entry.ghost_name }
@@ -71,7 +64,7 @@ impl<K: Key + Copy + Clone> Room<K> {
     pub(crate) fn hall(&mut self) -> Hall<'_, K>
         ensures lots { lots_in result ≡ [] }
         ensures bits { bits_in result ≡ [] }
-        ensures terms { terms_in K.Key.made K.Key.at_least K.Key.arity result ≡ terms K.Key.made K.Key.at_least K.Key.arity (room_for (length self.old.places.items)) (letter_room self.old.letters.items) (length self.old.work.items) }
+        ensures terms { terms_in K.Key.made K.Key.at_least K.Key.FIELDS result ≡ terms K.Key.made K.Key.at_least K.Key.FIELDS (room_for (length self.old.places.items)) (letter_room self.old.letters.items) (length self.old.work.items) }
     {
         Hall::new(
             &mut self.places[..],

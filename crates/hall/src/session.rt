@@ -18,7 +18,7 @@ impl<K: Key + Copy> Hall<'_, K> {
     ) -> Result<Option<&'t [u8]>, AllocError>
         ensures shorter { IfOk result (λ o. MatchOption o ((text.now ≡ []) × (out.new.items ≡ out.old.items)) (λ rest. length rest.now < length text.now)) }
         ensures ended { IfOk result (λ o. MatchOption o ((lots_in self.new ≡ lots_in self.old) × (bits_in self.new ≡ bits_in self.old) × (self.new.work.now ≡ self.old.work.now)) (λ _. Unit)) }
-        ensures first { (shown : Option (List K)) → Stands K.Key.at_least shown (bits_in self.old) → IfOk result (λ o. MatchOption o Unit (λ rest. FirstNext (terms_in K.Key.made K.Key.at_least K.Key.arity self.old) (hall (lots_in self.old) shown) text.now rest.now (lots_in self.new) (bits_in self.new) out.old.items out.new.items)) }
+        ensures first { (shown : Option (List K)) → Stands K.Key.at_least shown (bits_in self.old) → IfOk result (λ o. MatchOption o Unit (λ rest. FirstNext (terms_in K.Key.made K.Key.at_least K.Key.FIELDS self.old) (hall (lots_in self.old) shown) text.now rest.now (lots_in self.new) (bits_in self.new) out.old.items out.new.items)) }
         ensures kept { Kept self.old self.new }
     {
         let Some(line) = first_line(text) else {
@@ -35,7 +35,7 @@ pub fn session<K: Key + Copy + Clone>(
     blank: K,
     heap: Global,
 ) -> Result<Vec<u8>, AllocError>
-    ensures { IfOk result (λ out. out.items ≡ all_replies (program_terms K.Key.made K.Key.at_least K.Key.arity) input.now) }
+    ensures { IfOk result (λ out. out.items ≡ all_replies (program_terms K.Key.made K.Key.at_least K.Key.FIELDS) input.now) }
 {
     let mut room = Room::new(blank, heap)?;
     let mut hall = room.hall();

@@ -37,20 +37,12 @@ pub fn leading_pair_take(bytes: &[u8], bits: usize) -> u32
 pub fn leading_pair_best(bytes: &[u8], bits: usize, start: u32, size: u32) -> u32
     ensures { Reads best_shown (packed bytes.now bits) start size result }
 {
-    match page_of(bytes, bits, start, size) {
-        Shown::Blank => 0,
-        Shown::Best(best) => best,
-        Shown::Pair(best, _) => best,
-    }
+    page_of(bytes, bits, start, size).best().unwrap_or(0)
 }
 
 /// The second lot of a page of the sheet, or 0 where there is none, and where take or page is refused.
 pub fn leading_pair_second(bytes: &[u8], bits: usize, start: u32, size: u32) -> u32
     ensures { Reads second_shown (packed bytes.now bits) start size result }
 {
-    match page_of(bytes, bits, start, size) {
-        Shown::Blank => 0,
-        Shown::Best(_) => 0,
-        Shown::Pair(_, second) => second,
-    }
+    page_of(bytes, bits, start, size).second().unwrap_or(0)
 }

@@ -6,8 +6,8 @@ pub trait Key: Sized {
     /// How many fields a key of this kind has.
     const FIELDS: usize;
 
-    // The number that `FIELDS` is: no clause can cite the constant of a bound.
-    ghost arity: { ℕ };
+    // The same number, for clauses.
+    ghost FIELDS: { ℕ };
 
     // The first key is at least as good as the second.
     ghost at_least: { Self → Self → Bool };
@@ -15,9 +15,12 @@ pub trait Key: Sized {
     // The key that these fields make, if they make one.
     ghost made: { List ℕ → Option Self };
 
-    /// How many fields a key of this kind has: `FIELDS`, where a contract has to say it.
+    /// How many fields a key of this kind has.
     fn count() -> usize
-        ensures { result ≡ arity };
+        ensures { result ≡ FIELDS }
+    {
+        Self::FIELDS
+    }
 
     /// The key that these fields make; `None` where the kind refuses them.
     fn from_fields(fields: &[u32]) -> Option<Self>
@@ -33,10 +36,10 @@ pub trait Key: Sized {
     ghost transitive: { (x y z : Self) → at_least x y ≡ true → at_least y z ≡ true → at_least x z ≡ true };
 
     // A kind has one to four fields.
-    ghost few: { (1 ≤ arity) × (arity ≤ 4) };
+    ghost few: { (1 ≤ FIELDS) × (FIELDS ≤ 4) };
 
     // Any other count of fields is refused.
-    ghost counted: { (fields : List ℕ) (key : Self) → made fields ≡ Some key → length fields ≡ arity };
+    ghost counted: { (fields : List ℕ) (key : Self) → made fields ≡ Some key → length fields ≡ FIELDS };
 }
 
 /// Whether two keys are level: each is at least as good as the other.
@@ -55,7 +58,7 @@ pub fn ahead<K: Key>(a: &K, b: &K, first: bool) -> bool
 
 /// Whether there are as many fields as a key of this kind has.
 pub fn has_count<K: Key>(fields: &[u32]) -> bool
-    ensures { result ≡ (length fields.now == K.Key.arity) }
+    ensures { result ≡ (length fields.now == K.Key.FIELDS) }
 {
     fields.len() == K::count()
 }

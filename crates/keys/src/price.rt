@@ -13,7 +13,7 @@ pub struct Price {
 impl Key for Price {
     const FIELDS: usize = 1;
 
-    ghost arity = { 1 };
+    ghost FIELDS = { 1 };
 
     ghost at_least = { price_at_least };
 
@@ -26,10 +26,6 @@ impl Key for Price {
     ghost few = { Prim.search rules };
 
     ghost counted = { Prim.search rules };
-
-    fn count() -> usize {
-        Self::FIELDS
-    }
 
     fn from_fields(fields: &[u32]) -> Option<Price> {
         match fields {

@@ -48,7 +48,7 @@ impl Clip {
 impl Key for ClipRow {
     const FIELDS: usize = 3;
 
-    ghost arity = { 3 };
+    ghost FIELDS = { 3 };
 
     ghost at_least = { clip_at_least };
 
@@ -61,10 +61,6 @@ impl Key for ClipRow {
     ghost few = { Prim.search rules };
 
     ghost counted = { Prim.search rules };
-
-    fn count() -> usize {
-        Self::FIELDS
-    }
 
     fn from_fields(fields: &[u32]) -> Option<ClipRow> {
         let clip = Clip::from_fields(fields)?;

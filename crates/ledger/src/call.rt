@@ -17,7 +17,7 @@ pub enum BookCall {
 }
 
 /// Why a call in a list is declined.
-#[derive(Clone, Copy)]
+#[derive(Clone, Copy, PartialEq, Eq, Debug)]
 pub enum CallFault {
     Book(BookFault),
     /// A cast names no punch.

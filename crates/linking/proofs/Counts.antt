@@ -1,39 +1,29 @@
--- Runs of ones on a tape, bit by bit.
-use Rattle.std.proofs.Common.{◌≡◌, ℕ, zero, suc, ◌+◌, ◌-◌, ◌<◌, ◌≤◌, Bool, true, false, List, [], ◌∷◌, ◌++◌, length, drop, sym, refl, ap, arith}
-use Rattle.std.proofs.lemmas.List.{drop_all}
-use Rattle.bits.proofs.Bitlists.{set_at}
+-- A run of ones on a tape: how many stand at the front, and what stands behind the zero that ends them.
+use Rattle.std.proofs.Common.{◌≡◌, ℕ, zero, suc, ◌+◌, ◌-◌, ◌<◌, ◌≤◌, Bool, true, false, List, [], ◌∷◌, ◌++◌, length, drop, drop-drop, sym, refl, ap, ◌∙◌, subst, arith}
+use Rattle.std.specs.List.{prefix_len}
+use Rattle.std.proofs.lemmas.List.{length-drop}
 use Rattle.leaders.specs.Sheet.{unary}
 
-drop_here : (bs : List Bool) (p : ℕ) (b : Bool) → p < length bs → b ≡ set_at bs p → drop p bs ≡ b ∷ drop (suc p) bs
-drop_here [] p b h i = absurd (omega arith)
-drop_here (x ∷ bs) zero b h i = ap (λ z. z ∷ bs) (sym i)
-drop_here (x ∷ bs) (suc p) b h i = drop_here bs p b (omega arith) i
-
--- the next bit of a count
-bit_next : (bs rest : List Bool) (p : ℕ) (b c : Bool) → p < length bs → b ≡ set_at bs p → b ≡ c → drop p bs ≡ rest → c ∷ drop (p + 1) bs ≡ rest
-bit_next bs rest p b c h i t e =
-    let f = drop_here bs p b h i in
-    let z : p + 1 ≡ suc p = omega arith in
-    let g : drop (p + 1) bs ≡ drop (suc p) bs = ap (λ q. drop q bs) z in
-    cc
-
-pub run_one : (bs rest : List Bool) (p ones d : ℕ) (b : Bool) → p < length bs → b ≡ set_at bs p → b ≡ true → (ones ≤ d) × (drop p bs ≡ unary (d - ones) ++ rest) → (ones + 1 ≤ d) × (drop (p + 1) bs ≡ unary (d - (ones + 1)) ++ rest)
+pub run_length : (d : ℕ) (rest : List Bool) → prefix_len (λ b. b) (unary d ++ rest) ≡ d
 unfolding unary
-run_one bs rest p ones d b h i t (k, e) = go (d - ones) (d - (ones + 1)) refl refl (bit_next bs (unary (d - ones) ++ rest) p b true h i t e)
-  where
-    go : (m o : ℕ) → m ≡ d - ones → o ≡ d - (ones + 1) → true ∷ drop (p + 1) bs ≡ unary m ++ rest → (ones + 1 ≤ d) × (drop (p + 1) bs ≡ unary o ++ rest)
-    go zero o u v f = absurd (let z : ◌≡◌ {A = ℕ} 0 1 = cc in omega arith)
-    go (suc m) o u v f = let z : o ≡ m = omega arith in (omega arith, rw z (cc))
+run_length zero rest = refl
+run_length (suc d) rest = omega (arith, run_length d rest)
 
-pub run_zero : (bs rest : List Bool) (p ones d : ℕ) (b : Bool) → p < length bs → b ≡ set_at bs p → b ≡ false → (ones ≤ d) × (drop p bs ≡ unary (d - ones) ++ rest) → (ones ≡ d) × (drop (p + 1) bs ≡ rest)
+behind : (d : ℕ) (rest : List Bool) → drop (suc d) (unary d ++ rest) ≡ rest
 unfolding unary
-run_zero bs rest p ones d b h i t (k, e) = go (d - ones) refl (bit_next bs (unary (d - ones) ++ rest) p b false h i t e)
-  where
-    go : (m : ℕ) → m ≡ d - ones → false ∷ drop (p + 1) bs ≡ unary m ++ rest → (ones ≡ d) × (drop (p + 1) bs ≡ rest)
-    go zero u f = (omega arith, cc)
-    go (suc m) u f = absurd (let z : ◌≡◌ {A = ℕ} 0 1 = cc in omega arith)
+behind zero rest = refl
+behind (suc d) rest = behind d rest
 
-pub run_none : (bs rest : List Bool) (p m : ℕ) → length bs ≤ p → drop p bs ≡ unary m ++ rest → ⊥
+run_long : (d : ℕ) (rest : List Bool) → d < length (unary d ++ rest)
 unfolding unary
-run_none bs rest p zero h e = let f = drop_all p bs h in let z : ◌≡◌ {A = ℕ} 0 1 = cc in omega arith
-run_none bs rest p (suc m) h e = let f = drop_all p bs h in let z : ◌≡◌ {A = ℕ} 0 1 = cc in omega arith
+run_long zero rest = omega arith
+run_long (suc d) rest = omega (arith, run_long d rest)
+
+-- the run begins at bit `at`, and `next` is the bit behind its zero
+pub run_is : (bs rest : List Bool) (at d ones next : ℕ) → drop at bs ≡ unary d ++ rest → ones ≡ prefix_len (λ b. b) (drop at bs) → (at + ones + 1 ≤ length bs → next ≡ at + ones + 1) → (ones ≡ d) × (drop next bs ≡ rest)
+run_is bs rest at d ones next e f n =
+    let is : ones ≡ d = f ∙ ap (prefix_len (λ b. b)) e ∙ run_length d rest in
+    let long : at + ones + 1 ≤ length bs = omega (arith, is, run_long d rest, ap length e, length-drop at bs) in
+    let place : next ≡ at + suc d = omega (arith, is, n long) in
+    let step : drop (suc d) (drop at bs) ≡ drop (at + suc d) bs = drop-drop (suc d) at bs in
+    (is, ap (λ k. drop k bs) place ∙ sym step ∙ ap (drop (suc d)) e ∙ behind d rest)

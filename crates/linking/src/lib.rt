@@ -8,6 +8,7 @@ ghost use Rattle.links.specs.Made.{LotsLinked, WordsReady};
 ghost use Rattle.links.specs.Walks.{AtMost};
 ghost use Rattle.linking.specs.Linking.{Starts, Tame, less_place};
 
+use bits::iter::Bits;
 use bits::tape::Tape;
 use links::Links;
 use links::sides::Words;
@@ -24,15 +25,13 @@ impl Run {
     fn read<T: Tape>(tape: &T, at: usize) -> Run
         ensures { (d : ℕ) (rest : List Bool) → drop at (T.Tape.bits tape.now) ≡ unary d ++ rest → (result.ones ≡ d) × (drop result.next (T.Tape.bits tape.now) ≡ rest) }
     {
-        let n = tape.len();
-        let mut ones: u32 = 0;
-        for p in at..n {
-            if !tape.get(p).unwrap_or(false) {
-                return Run { ones, next: p + 1 };
-            }
-            ones += 1;
+        let ones = Bits::between(tape, at, tape.len())
+            .take_while(|bit| *bit)
+            .count();
+        Run {
+            ones: ones as u32,
+            next: at.saturating_add(ones).saturating_add(1),
         }
-        Run { ones, next: n }
     }
 }
 

@@ -9,7 +9,6 @@ use packed::tape::PackedTape;
 use panel::Panel;
 use panel::digit_panel::DigitPanel;
 use panel::line_panel::LinePanel;
-use panel::shown::Shown;
 use reading::check::SheetFault;
 use std::io::Write;
 
@@ -118,11 +117,10 @@ fn tell_pages(
             print!(rt; " ")?;
         }
         let _ = board.page(&mut panel, start, size);
-        match panel.shown() {
-            Shown::Blank => print!(rt; "0:0")?,
-            Shown::Best(best) => print!(rt; "{best}:0")?,
-            Shown::Pair(best, second) => print!(rt; "{best}:{second}")?,
-        }
+        let shown = panel.shown();
+        let best = shown.best().unwrap_or(0);
+        let second = shown.second().unwrap_or(0);
+        print!(rt; "{best}:{second}")?;
     }
     Ok(())
 }

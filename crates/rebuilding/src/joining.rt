@@ -7,6 +7,7 @@ ghost use Rattle.rebuilding.specs.Leaving.{Leaves};
 ghost use Rattle.rebuilding.specs.Splices.{Joins};
 ghost use Rattle.rebuilding.specs.Seams.{Inside, Hangs, Splices, Finishes, Closes};
 
+use bits::iter::Bits;
 use bits::tape::Tape;
 use links::sides::Sides;
 
@@ -73,8 +74,7 @@ impl Order<'_> {
             low,
             high,
         };
-        for p in from..upto {
-            let bit = tape.get(p).unwrap_or(false);
+        for bit in Bits::between(tape, from, upto) {
             self.hang(bit);
         }
     }

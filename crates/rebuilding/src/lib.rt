@@ -17,7 +17,7 @@ mod joining;
 mod pricing;
 
 /// Why no prices are written: there are fewer than n of them, or fewer than 4(n + 1) working numbers.
-#[derive(Clone, Copy)]
+#[derive(Clone, Copy, PartialEq, Eq, Debug)]
 pub struct FewNumbers;
 
 /// Rebuilds with exactly the prices and the working numbers that it takes.

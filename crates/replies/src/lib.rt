@@ -5,6 +5,8 @@ ghost use Rattle.std.specs.Prelude.{◌≡◌, ℕ, List, ◌++◌, map, Some, O
 ghost use Rattle.bits.specs.Punching.{letter};
 ghost use Rattle.replies.specs.Replies.{ok_line, refused_line, sheet_line, pair_line};
 
+use bits::iter::Bits;
+use bits::punch::letter_of;
 use bits::tape::Tape;
 use panel::shown::Shown;
 use std::alloc::AllocError;
@@ -18,20 +20,12 @@ fn push_text<D: Display + Drop>(out: &mut Vec<u8>, text: D) -> Result<(), AllocE
     out.extend_from_slice(text.as_bytes())
 }
 
-/// The letter of a bit.
-fn letter_of(bit: bool) -> u8
-    ensures { result ≡ letter bit }
-{
-    if bit { b'(' } else { b')' }
-}
-
 /// Adds bits as letters.
 fn push_letters<T: Tape>(out: &mut Vec<u8>, tape: &T) -> Result<(), AllocError>
     ensures { OnOk result (out.new.items ≡ out.old.items ++ map letter (T.Tape.bits tape.now)) }
 {
-    for i in 0..tape.len() {
-        let one = tape.get(i).unwrap_or(false);
-        out.push(letter_of(one))?;
+    for bit in Bits::of(tape) {
+        out.push(letter_of(bit))?;
     }
     Ok(())
 }

@@ -14,11 +14,8 @@ use panel::shown::Shown;
 
 /// The lots shown as one number, 0 for a blank panel.
 fn both(shown: Shown) -> u32 {
-    match shown {
-        Shown::Blank => 0,
-        Shown::Best(best) => best.wrapping_mul(65_536),
-        Shown::Pair(best, second) => best.wrapping_mul(65_536).wrapping_add(second),
-    }
+    let best = shown.best().unwrap_or(0).wrapping_mul(65_536);
+    best.wrapping_add(shown.second().unwrap_or(0))
 }
 
 /// A page: its first lot, and how many lots it has.

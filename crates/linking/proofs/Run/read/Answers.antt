@@ -1,21 +1,28 @@
-use Rattle.std.proofs.Common.{◌≡◌, ◌-◌, arith}
-use Rattle.bits.proofs.Bitlists.{set_at}
-use Rattle.linking.proofs.Counts.{run_one, run_zero, run_none}
+use Rattle.std.proofs.Common.{◌≡◌, ◌≤◌, length, take, drop, ap, ◌∙◌, arith, rules, tests}
+use Rattle.std.specs.List.{prefix_len}
+use Rattle.std.specs.Iterator.Adapters.{take_while_source}
+use Rattle.std.proofs.lemmas.List.{take_all, length-drop}
+use Rattle.std.proofs.lemmas.List.Folds.{length-prefix_len}
+use Rattle.std.proofs.lemmas.Iterator.Consumers.{count_from_yields_List, YieldsList-from_first}
+use Rattle.std.proofs.lemmas.Iterator.Search.{YieldsList-from_take_while}
+use Rattle.bits.specs.Bits.{bits_between}
+use Rattle.linking.proofs.Counts.{run_is}
 use Rattle.linking.proofs.Run.read.Goals as goal
+use Rattle.linking.proofs.Run.read.Goals.{After-count-ones}
 
-pub returns-then-not-unwrap_or : goal.returns-then-not-unwrap_or
-returns-then-not-unwrap_or g c =
+-- the ones at the front are counted
+counted : (g : _) (c : After-count-ones g) → c.count-ones.result ≡ prefix_len (λ b. b) (drop c.args.at (g.T.Tape.bits c.args.tape.now))
+counted g c =
     let bs = g.T.Tape.bits c.args.tape.now in
-    let e : c.unwrap_or.result ≡ set_at bs c.loop-p.p = cc in
-    λ d rest h. run_zero bs rest c.loop-p.p c.loop-p.ones d c.unwrap_or.result (omega (arith, c.len-n.ensures.is)) e c.if-not-unwrap_or.true (c.loop-p.invariant.1 d rest h)
-
-pub loop-p-preserved : goal.loop-p-preserved
-loop-p-preserved g c =
-    let bs = g.T.Tape.bits c.args.tape.now in
-    let e : c.unwrap_or.result ≡ set_at bs c.loop-p.p = cc in (
-      omega (arith, c.loop-p.invariant.0),
-      λ d rest h. run_one bs rest c.loop-p.p c.loop-p.ones d c.unwrap_or.result (omega (arith, c.len-n.ensures.is)) e c.if-not-unwrap_or.false (c.loop-p.invariant.1 d rest h),
-    )
+    let source = take_while_source c.take_while.result in
+    let left : bits_between (g.T.Tape.bits source.tape.now) source.from source.upto ≡ bits_between bs c.args.at c.len.result = search rules in
+    let all = left ∙ ap (drop c.args.at) (take_all c.len.result bs (omega (arith, c.len.ensures.is))) in
+    count_from_yields_List c.take_while.result c.count-ones.result c.count-ones.ensures.ran
+    (YieldsList-from_take_while _ (λ b. b) (YieldsList-from_first (λ x. x) (λ s. bits_between (g.T.Tape.bits s.tape.now) s.from s.upto) (drop c.args.at bs) all) c.take_while.ensures.closure c.take_while.ensures.done (λ x r q k. search (rules, tests)))
+    ∙ length-prefix_len (λ b. b) _
 
 pub returns : goal.returns
-returns g c = λ d rest h. absurd (run_none (g.T.Tape.bits c.args.tape.now) rest c.loop-p.p (d - c.loop-p.ones) (omega (arith, c.len-n.ensures.is)) (c.loop-p.invariant.1 d rest h).1)
+returns g c d rest h =
+    run_is (g.T.Tape.bits c.args.tape.now) rest c.args.at d c.count-ones.result c.saturating_add-2.result h
+    (counted g (goal.at.returns g c).After-count-ones)
+    (λ k. omega (arith, k, c.len.ensures.is, c.len.ensures.short, c.saturating_add.ensures, c.saturating_add-2.ensures))

@@ -6,7 +6,7 @@ use Rattle.hall.proofs.hall.Hall.answer_next.Goals as goal
 pub returns-clause-first : goal.returns-clause-first
 unfolding replies
 returns-clause-first g c shown st =
-    let t = terms_in g.K.Key.made g.K.Key.at_least g.K.Key.arity c.args.self.now in
+    let t = terms_in g.K.Key.made g.K.Key.at_least g.K.Key.FIELDS c.args.self.now in
     let line = c.in-Some.ensures in
     let said = c.in_ok-answer.ensures in
     record {

@@ -17,7 +17,7 @@ pub returns-in-Add : goal.returns-in-Add
 unfolding turn_of bits_after
 returns-in-Add g c =
     let before = c.args.self.now in
-    let t = terms_in g.K.Key.made g.K.Key.at_least g.K.Key.arity before in
+    let t = terms_in g.K.Key.made g.K.Key.at_least g.K.Key.FIELDS before in
     let (done, said) = booked t before _ (add (numbers c.in-Add.fields)) (ap (λ (z : Command). Some (asks z)) c.in-Add.is) (add_key t.most (lots_in before) (g.K.Key.made (numbers c.in-Add.fields))) (λ shown. refl) (answered told c.add.result) (record before { book = c.add.new.self })
     c.reply_book.result (vec_items c.args.out.now) (vec_items c.reply_book.new.out) refl refl (c.add.ensures.entry ∙ ap (λ z. add_key t.most (lots_in before) (g.K.Key.made z)) c.as_slice.ensures) c.reply_book.ensures in
     record { done = done; replied = said; kept = book_kept before c.add.new.self c.add.ensures.kept c.add.ensures.lender }
@@ -26,7 +26,7 @@ pub returns-in-Strike : goal.returns-in-Strike
 unfolding turn_of bits_after
 returns-in-Strike g c =
     let before = c.args.self.now in
-    let t = terms_in g.K.Key.made g.K.Key.at_least g.K.Key.arity before in
+    let t = terms_in g.K.Key.made g.K.Key.at_least g.K.Key.FIELDS before in
     let (done, said) = booked t before _ (strike c.in-Strike.lot) (ap (λ (z : Command). Some (asks z)) c.in-Strike.is) (strike_lot (lots_in before) c.in-Strike.lot) (λ shown. refl) (answered told c.strike.result) (record before { book = c.strike.new.self })
     c.reply_book-in-Strike.result (vec_items c.args.out.now) (vec_items c.reply_book-in-Strike.new.out) refl refl c.strike.ensures.entry c.reply_book-in-Strike.ensures in
     record { done = done; replied = said; kept = book_kept before c.strike.new.self c.strike.ensures.kept c.strike.ensures.lender }
@@ -35,7 +35,7 @@ pub returns-in-NewKey : goal.returns-in-NewKey
 unfolding turn_of bits_after
 returns-in-NewKey g c =
     let before = c.args.self.now in
-    let t = terms_in g.K.Key.made g.K.Key.at_least g.K.Key.arity before in
+    let t = terms_in g.K.Key.made g.K.Key.at_least g.K.Key.FIELDS before in
     let (done, said) = booked t before _ (new_key c.in-NewKey.lot (numbers c.in-NewKey.fields)) (ap (λ (z : Command). Some (asks z)) c.in-NewKey.is) (set_key (lots_in before) c.in-NewKey.lot (g.K.Key.made (numbers c.in-NewKey.fields))) (λ shown. refl) (answered told c.new_key.result) (record before { book = c.new_key.new.self })
     c.reply_book-in-NewKey.result (vec_items c.args.out.now) (vec_items c.reply_book-in-NewKey.new.out) refl refl (c.new_key.ensures.entry ∙ ap (λ z. set_key (lots_in before) c.in-NewKey.lot (g.K.Key.made z)) c.as_slice-in-NewKey.ensures) c.reply_book-in-NewKey.ensures in
     record { done = done; replied = said; kept = book_kept before c.new_key.new.self c.new_key.ensures.kept c.new_key.ensures.lender }
@@ -43,27 +43,27 @@ returns-in-NewKey g c =
 pub returns-in-Cast-clause-done : goal.returns-in-Cast-clause-done
 returns-in-Cast-clause-done g c =
     let before = c.args.self.now in
-    let t = terms_in g.K.Key.made g.K.Key.at_least g.K.Key.arity before in
+    let t = terms_in g.K.Key.made g.K.Key.at_least g.K.Key.FIELDS before in
     casted t before _ (ap (λ (z : Command). Some (asks z)) c.in-Cast.is) _ (few_lots before) (ap keys_in c.reply_cast.ensures.book) c.reply_cast.ensures.bits
 
 pub returns-in-Cast-clause-replied : goal.returns-in-Cast-clause-replied
 returns-in-Cast-clause-replied g c =
     let before = c.args.self.now in
-    let t = terms_in g.K.Key.made g.K.Key.at_least g.K.Key.arity before in
+    let t = terms_in g.K.Key.made g.K.Key.at_least g.K.Key.FIELDS before in
     cast_said t before _ (ap (λ (z : Command). Some (asks z)) c.in-Cast.is) c.reply_cast.result (vec_items c.args.out.now) (vec_items c.reply_cast.new.out) c.reply_cast.ensures.reply
 
 pub returns-in-Page-clause-done : goal.returns-in-Page-clause-done
 unfolding turn_of bits_after
 returns-in-Page-clause-done g c =
     let before = c.args.self.now in
-    let t = terms_in g.K.Key.made g.K.Key.at_least g.K.Key.arity before in
+    let t = terms_in g.K.Key.made g.K.Key.at_least g.K.Key.FIELDS before in
     unchanged t before _ (λ shown. ap (λ (z : Command). (turn_of t (hall (lots_in before) shown) (Some (asks z))).after) c.in-Page.is) (ap (λ (z : Command). bits_after t (lots_in before) (bits_in before) (Some (asks z))) c.in-Page.is)
 
 pub returns-in-Page-clause-replied : goal.returns-in-Page-clause-replied
 unfolding turn_of
 returns-in-Page-clause-replied g c shown st =
     let before = c.args.self.now in
-    let t = terms_in g.K.Key.made g.K.Key.at_least g.K.Key.arity before in
+    let t = terms_in g.K.Key.made g.K.Key.at_least g.K.Key.FIELDS before in
     let ge = g.K.Key.at_least in
     let strict = keys_order_lots ge g.met.K.Key.total g.met.K.Key.transitive in
     subst (λ (z : Command). IfOk c.reply_page.result (λ _. vec_items c.reply_page.new.out ≡ vec_items c.args.out.now ++ (turn_of t (hall (lots_in before) shown) (Some (asks z))).reply)) (sym c.in-Page.is)
