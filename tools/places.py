@@ -70,9 +70,19 @@ def repeated_facts(files):
     return [f"{crate}: {len(places)} functions: {clause[:110]}" for (crate, clause), places in seen.items() if len(places) >= 3]
 
 
+def parameters(head):
+    """How many parameters stand in the parentheses after a function's type parameters."""
+    depth = 0
+    for at, letter in enumerate(head):
+        depth += (letter == "<") - (letter == ">" and head[at - 1] != "-")
+        if letter == "(" and depth == 0:
+            return len(re.findall(r"(?:^|[(,\s])(?:mut )?\w+: |&(?:mut )?self", head[at:].split(") ->")[0]))
+    return 0
+
+
 def many_parameters(files):
-    """Functions of six parameters or more."""
-    return [place for place, head, _, _ in functions(files) if len(re.findall(r"\w+: ", head)) >= 6]
+    """Functions of five parameters or more."""
+    return [place for place, head, _, _ in functions(files) if parameters(head) >= 5]
 
 
 def points(files):
@@ -86,7 +96,7 @@ def points(files):
         "4 a type with no equality or printing": lines_with(files, r"#\[derive\(Clone, Copy\)\]|#\[derive\(Drop\)\]"),
         "4 a conversion or a text written by hand": lines_with(files, r"fn (\w+_of|from_\w+|numbers|row|fault_text|tell_refusal|carried|taken|paged|both|hex_digit|push_hex)\b"),
         "5 a fact or a term that three functions repeat": repeated_facts(files),
-        "5 six parameters or more": many_parameters(files),
+        "5 five parameters or more": many_parameters(files),
         "6 a count beside a list": lines_with(files, r"^\s*(pub(\(crate\))? )?(count|top): (usize|u32),"),
         "6 lists of numbers side by side": lines_with(files, r"^\s*\w+: &(mut )?\[u32\],$"),
         "7 an arm that picks a function": lines_with(files, r"^\s*('\w'|\"\w+\") => \w+(::<\w+>)?\("),

@@ -41,9 +41,6 @@ ones_le_length (false ∷ bs) = omega (arith, ones_le_length bs)
 pub rank_yes : (bs : List Bool) (i : ℕ) (b : Bool) → b ≡ set_at bs i → b ≡ true → rank_of bs (i + 1) ≡ rank_of bs i + 1
 rank_yes bs i b e t = rank_more bs i b e ∙ ap (λ (x : Bool). rank_of bs i + one x) t
 
-pub rank_no : (bs : List Bool) (i : ℕ) (b : Bool) → b ≡ set_at bs i → b ≡ false → rank_of bs (i + 1) ≡ rank_of bs i
-rank_no bs i b e t = let h : rank_of bs (i + 1) ≡ rank_of bs i + 0 = rank_more bs i b e ∙ ap (λ (x : Bool). rank_of bs i + one x) t in omega arith
-
 pub nth_map : {X Y : Type 0} (f : X → Y) (xs : List X) (i : ℕ) → slice_get (map f xs) i ≡ option_map f (slice_get xs i)
 nth_map f [] i = refl
 nth_map f (x ∷ xs) zero = refl
@@ -69,28 +66,6 @@ rank_not bs zero h = refl
 rank_not [] (suc p) h = absurd (omega arith)
 rank_not (true ∷ bs) (suc p) h = omega (arith, rank_not bs p (omega arith))
 rank_not (false ∷ bs) (suc p) h = omega (arith, rank_not bs p (omega arith))
-
--- the step of a loop over the bits that looks for zeros, by the bit that `valueOr` has read
-pub zero_yes : (bs : List Bool) (i : ℕ) → i < length bs → unwrap_or (slice_get bs i) true ≡ false → (slice_get (map not bs) i ≡ Some true) × (rank_of (map not bs) (i + 1) ≡ rank_of (map not bs) i + 1)
-zero_yes bs i h e = rw (add-one i) (go bs i h e)
-  where
-    go : (bs : List Bool) (i : ℕ) → i < length bs → unwrap_or (slice_get bs i) true ≡ false → (slice_get (map not bs) i ≡ Some true) × (rank_of (map not bs) (suc i) ≡ rank_of (map not bs) i + 1)
-    go [] i h e = absurd (omega arith)
-    go (true ∷ bs) zero h e = absurd (let z : ◌≡◌ {A = ℕ} 0 1 = cc in omega arith)
-    go (false ∷ bs) zero h e = (refl, refl)
-    go (true ∷ bs) (suc i) h e = go bs i (omega arith) e
-    go (false ∷ bs) (suc i) h e = let f = go bs i (omega arith) e in (f.0, omega (arith, f.1))
-
-pub zero_no : (bs : List Bool) (i : ℕ) → unwrap_or (slice_get bs i) true ≡ true → rank_of (map not bs) (i + 1) ≡ rank_of (map not bs) i
-zero_no bs i e = rw (add-one i) (go bs i e)
-  where
-    go : (bs : List Bool) (i : ℕ) → unwrap_or (slice_get bs i) true ≡ true → rank_of (map not bs) (suc i) ≡ rank_of (map not bs) i
-    go [] zero e = refl
-    go [] (suc i) e = refl
-    go (true ∷ bs) zero e = refl
-    go (false ∷ bs) zero e = absurd (let z : ◌≡◌ {A = ℕ} 0 1 = cc in omega arith)
-    go (true ∷ bs) (suc i) e = go bs i e
-    go (false ∷ bs) (suc i) e = omega (arith, go bs i e)
 
 -- ---- windows
 

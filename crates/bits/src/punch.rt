@@ -50,7 +50,7 @@ pub fn letter_of(bit: bool) -> u8
     if bit { b'(' } else { b')' }
 }
 
-/// One letter to a bit in lent bytes, 32,768 at most: `(` for 1 and `)` for 0.
+/// One letter to a bit in lent bytes, with their count beside them since nothing is allocated, 32,768 at most: `(` for 1 and `)` for 0.
 #[derive(Drop)]
 pub struct LetteredPunch<'a> {
     pub text: &'a mut [u8],

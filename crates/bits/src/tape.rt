@@ -40,6 +40,7 @@ pub trait Tape {
     }
 
     /// The place of the `j`-th zero, counted from 1: absent if `j` is 0 or too large.
+    // One function for both bits would be generic in the tape, and the trait's own bodies cannot be proved by it: they would lead back to themselves.
     fn select_zero(&self, j: usize) -> Option<usize>
         ensures { Select (map not (bits self.now)) j result }
     {

@@ -22,7 +22,7 @@ pub enum BoardReply {
     Paged,
 }
 
-/// Why a call in a list is declined.
+/// Why a call in a list is declined. The book's list has a type of its own: one for both could not say what a call names that is not there.
 #[derive(Clone, Copy, PartialEq, Eq, Debug)]
 pub enum TurnFault {
     Board(BoardFault),
@@ -39,7 +39,7 @@ impl From<BoardFault> for TurnFault {
 }
 
 impl TurnFault {
-    /// The number of the refusal; 0 where a page names no panel.
+    /// The number of the refusal, by which reply lines and C tell it; 0 where a page names no panel.
     pub fn number(&self) -> u32
         ensures { result ≡ (told self.now).number }
     {

@@ -54,7 +54,7 @@ impl fmt::Display for BoardFault {
 }
 
 impl BoardFault {
-    /// The number of the refusal.
+    /// The number of the refusal: reply lines and C tell it by that.
     pub fn number(&self) -> u32
         ensures { result ≡ (told self.now).number }
     {

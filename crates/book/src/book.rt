@@ -21,7 +21,7 @@ pub const BITS: usize = 14_000;
 
 pub const NUMBERS: usize = 16_004;
 
-/// A book: lots in order, numbered from 1, each with one key. It keeps the keys in the list that it is lent.
+/// A book: lots in order, numbered from 1, each with one key. It keeps the keys in the list that it is lent, with their count beside it since nothing is allocated.
 #[derive(Drop)]
 pub struct Book<'a, K> {
     list: &'a mut [K],

@@ -3,7 +3,7 @@
 ghost use Rattle.std.specs.Prelude.{◌≡◌, take};
 ghost use Rattle.book.specs.Held.{numbers};
 
-/// The fields of a key, five at most: no kind has more than four, so a count that every kind refuses can be written too.
+/// The fields of a key, five at most: no kind has more than four, so a count that every kind refuses can be written too. Nothing is allocated: calls that carry them are copied.
 #[derive(Clone, Copy)]
 pub struct Fields {
     values: [u32; 5],

@@ -197,7 +197,7 @@ fn work_case(rt: &HostRuntime, rest: &str) -> anyhow::Result<()> {
     }
 }
 
-/// Answers one line.
+/// Answers one line: a match on its first word is plainer than a table of functions.
 fn answer(rt: &HostRuntime, line: &str) -> anyhow::Result<()> {
     let (word, rest) = line.split_once(',').unwrap_or((line, ""));
     match word {

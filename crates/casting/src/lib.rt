@@ -42,7 +42,7 @@ pub enum CastFault {
 }
 
 impl CastFault {
-    /// The number of the refusal.
+    /// The number of the refusal: reply lines and C tell it by that.
     pub fn number(&self) -> u32
         ensures { result ≡ (told self.now).number }
     {

@@ -68,7 +68,7 @@ fn page_of(numbers: &[u32]) -> Option<Command>
     }
 }
 
-/// The command of a letter and numbers, for keys of the kind `K`.
+/// The command of a letter and numbers, for keys of the kind `K`: a match is plainer than a table of functions.
 fn command_by<K: Key>(letter: char, numbers: &[u32]) -> Option<Command>
     ensures { option_map asks result ≡ asked_by K.Key.FIELDS letter numbers.now }
 {
@@ -92,7 +92,7 @@ fn lettered<K: Key>(field: &[u8], numbers: &[u32]) -> Option<Command>
     command_by::<K>(*letter as char, numbers)
 }
 
-/// The command on a line, for keys of the kind `K`; `None` where the line is malformed.
+/// The command on a line, for keys of the kind `K`, which neither `FromStr` nor `TryFrom` could carry; `None` where the line is malformed.
 pub fn command_of<K: Key>(line: &[u8]) -> Option<Command>
     ensures { option_map asks result ≡ asked_of K.Key.FIELDS line.now }
 {

@@ -22,7 +22,7 @@ pub trait Key: Sized {
         Self::FIELDS
     }
 
-    /// The key that these fields make; `None` where the kind refuses them.
+    /// The key that these fields make; `None` where the kind refuses them. `TryFrom` has no place for the law on their count.
     fn from_fields(fields: &[u32]) -> Option<Self>
         ensures { result ≡ made fields.now };
 

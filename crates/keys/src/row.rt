@@ -32,7 +32,7 @@ impl Clip {
         })
     }
 
-    /// The clip's fields, which are in range.
+    /// The clip's fields, which are in range: `From` could not say the second.
     pub fn row(&self) -> ClipRow
         ensures fields { result ≡ row_of self.now }
         ensures ranged { in_range result.width result.wool_yield result.strength ≡ true }
@@ -67,6 +67,7 @@ impl Key for ClipRow {
         Some(clip.row())
     }
 
+    // No derive: the width counts downwards, and the field that differs first decides.
     fn at_least(&self, other: &ClipRow) -> bool {
         if self.width != other.width {
             return self.width < other.width;

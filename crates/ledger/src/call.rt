@@ -16,7 +16,7 @@ pub enum BookCall {
     Cast(usize, usize),
 }
 
-/// Why a call in a list is declined.
+/// Why a call in a list is declined. The board's list has a type of its own: one for both could not say what a call names that is not there.
 #[derive(Clone, Copy, PartialEq, Eq, Debug)]
 pub enum CallFault {
     Book(BookFault),
@@ -33,7 +33,7 @@ impl From<BookFault> for CallFault {
 }
 
 impl CallFault {
-    /// The number of the refusal; 0 where a cast names no punch.
+    /// The number of the refusal, by which reply lines and C tell it; 0 where a cast names no punch.
     pub fn number(&self) -> u32
         ensures { result ≡ (told self.now).number }
     {

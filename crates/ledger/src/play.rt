@@ -53,6 +53,7 @@ pub fn perform<K: Key + Copy, P: Punch>(
     }
 }
 
+// What a play is lent serves one call only: a struct of it would be made just to be taken apart.
 /// Performs the calls in order and notes the answers, for which there is room. Public for our crate `sale`, which looks for all its room before the first call.
 pub fn play_into<K: Key + Copy, P: Punch>(
     list: &mut [K],

@@ -11,10 +11,6 @@ abbrev pub ahead : ℕ → ℕ → ℕ
 ahead n zero = 0
 ahead n (suc x) = n - x
 
-pub ahead_most : (n x : ℕ) → ahead n x ≤ n
-ahead_most n zero = omega arith
-ahead_most n (suc x) = omega arith
-
 less : (n x y : ℕ) → x ≢ 0 → x ≤ n → (y ≡ 0) ⊎ (x < y) → ahead n y < ahead n x
 less n zero y d p h = absurd (d refl)
 less n (suc x) zero d p h = omega arith

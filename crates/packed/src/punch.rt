@@ -8,7 +8,7 @@ use crate::bytes::{put_bit, room_of};
 use crate::tape::PackedTape;
 use bits::punch::{Full, Punch};
 
-/// Packs its bits into lent bytes, of which it uses the first 4,096 at most.
+/// Packs its bits into lent bytes, of which it uses the first 4,096 at most. Nothing is allocated, and the count is one of bits.
 #[derive(Drop)]
 pub struct PackedPunch<'a> {
     pub bytes: &'a mut [u8],

@@ -5,7 +5,7 @@ ghost use Rattle.packed.specs.Packed.{packed};
 use crate::bytes::{bit_at, ones_before, pass_zeros, room_of};
 use bits::tape::Tape;
 
-/// The first `count` bits of borrowed bytes, as far as they go, and 32,768 at most.
+/// The first `count` bits of borrowed bytes, as far as they go, and 32,768 at most. C gives bytes and count so.
 #[derive(Clone, Copy)]
 pub struct PackedTape<'a> {
     pub bytes: &'a [u8],

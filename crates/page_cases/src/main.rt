@@ -164,7 +164,7 @@ fn digits_case(rt: &HostRuntime, stand: &mut Stand, rest: &str) -> anyhow::Resul
     tell_answer(rt, answer)
 }
 
-/// Answers one line. `sheet,LETTERS` makes the letters the current sheet, and is answered like `take,LETTERS`.
+/// Answers one line: a match on its first word is plainer than a table of functions. `sheet,LETTERS` makes the letters the current sheet, and is answered like `take,LETTERS`.
 fn answer(rt: &HostRuntime, stand: &mut Stand, line: &str) -> anyhow::Result<()> {
     let (word, rest) = line.split_once(',').unwrap_or((line, ""));
     match word {

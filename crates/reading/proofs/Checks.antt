@@ -78,10 +78,6 @@ spent_empty (zero ∷ st) zero h k = refl
 spent_empty (suc c ∷ st) zero h k = absurd (omega arith)
 spent_empty (x ∷ st) (suc i) h k = spent_empty st i (omega arith) k
 
-pub spent_none : (st : List ℕ) (i : ℕ) → length st ≤ i → spent (drop i st) ≡ 0
-unfolding spent
-spent_none st i h = ap spent (drop_all i st h)
-
 -- the stack where the empty ones are gone
 stripped : (st : List ℕ) (n : ℕ) → n ≡ spent st → n < length st → (0 < get_or st n 0) × (taken st ≡ (get_or st n 0 - 1) ∷ drop (suc n) st)
 unfolding spent taken

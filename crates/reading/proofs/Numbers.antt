@@ -55,10 +55,6 @@ nth_within [] p x e = absurd (let z : ◌≡◌ {A = ℕ} 0 1 = cc in omega arit
 nth_within (y ∷ xs) zero x e = omega arith
 nth_within (y ∷ xs) (suc p) x e = omega (arith, nth_within xs p x e)
 
-pub read_zero : (o : Option Bool) → unwrap_or o true ≡ false → o ≡ Some false
-read_zero None e = cc
-read_zero (Some b) e = ap Some e
-
 read_one : (bs : List Bool) (p : ℕ) → p < length bs → unwrap_or (slice_get bs p) true ≡ true → slice_get bs p ≡ Some true
 read_one [] p h e = absurd (omega arith)
 read_one (x ∷ bs) zero h e = ap Some e

@@ -26,7 +26,7 @@ pub enum SheetFault {
 }
 
 impl SheetFault {
-    /// The number of the refusal.
+    /// The number of the refusal: reply lines and C tell it by that.
     pub fn number(&self) -> u32
         ensures { result ≡ (told self.now).number }
     {
@@ -100,9 +100,9 @@ fn too_many<T: Tape>(tape: &T, from: usize, size: usize, p: usize, q: usize) -> 
 
 /// Where the last word ends, and the first lot whose word is wrong, if one is.
 #[derive(Drop)]
-pub struct Walk {
-    pub at: usize,
-    pub bad: Option<u32>,
+struct Walk {
+    at: usize,
+    bad: Option<u32>,
     ghost lot: { is_lot bad ≡ true },
 }
 

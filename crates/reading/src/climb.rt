@@ -10,7 +10,7 @@ ghost use Rattle.reading.specs.Reading.{Small, Swept, Widened};
 use bits::iter::Bits;
 use bits::tape::Tape;
 
-/// How far a reader has gone back.
+/// How far a reader has gone back. That its counts are small is a clause and no part of the type: definitions make such values without a proof.
 #[derive(Clone, Copy)]
 pub struct Climb {
     pub lot: u32,

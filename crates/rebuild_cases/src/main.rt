@@ -120,7 +120,7 @@ fn sized_case(rt: &HostRuntime, takes: bool, rest: &str) -> anyhow::Result<()> {
     room_case(rt, letters, takes, usize::from(most), usize::from(work))
 }
 
-/// Answers one line.
+/// Answers one line: a match on its first word is plainer than a table of functions.
 fn answer(rt: &HostRuntime, line: &str) -> anyhow::Result<()> {
     let (word, rest) = line.split_once(',').unwrap_or((line, ""));
     match word {

@@ -1,6 +1,5 @@
 pub mod Splicing
 pub mod Sides
-pub mod Reading
 pub mod Postorder
 pub mod Ordering
 pub mod Passing
