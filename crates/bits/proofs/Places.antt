@@ -89,10 +89,13 @@ filtered_select f bs a n j k o l t e h = read o (h ∙ ap (λ m. slice_get (filt
   where
     rest : List Bool
     rest = drop a bs
+
     w : n - a ≡ length rest
     w = omega (arith, l, length-drop a bs)
+
     all : Kth rest a k (slice_get (filter f (range_with_len a (length rest))) k)
     all = filtered_kth f a rest k (λ i m. nth_drop a bs i ∙ t (a + i) (omega (arith, w)))
+
     read : (o : Option ℕ) → option_map (λ x. x) o ≡ slice_get (filter f (range_with_len a (length rest))) k → Select bs j o
     read None g =
         let m : Kth rest a k None = subst (λ (q : Option ℕ). Kth rest a k q) (sym g) all in

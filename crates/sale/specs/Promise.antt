@@ -1,7 +1,7 @@
 -- What is promised of a whole sale, in the words of the subject.
-use Rattle.std.specs.Prelude.{◌≡◌, ℕ, suc, ◌*◌, ◌^◌, ◌<◌, ◌≤◌, Bool, true, false, ◌&&◌, ◌↔◌, List, [], ◌∷◌, ◌++◌, map, length, take, drop, Ok, Err, vec_len, vec_capacity, Option, Result, slice_index, slice_index_or}
+use Rattle.std.specs.Prelude.{◌≡◌, ℕ, suc, ◌*◌, ◌^◌, ◌<◌, ◌≤◌, Bool, true, false, ◌&&◌, ◌↔◌, List, [], ◌∷◌, ◌++◌, map, length, take, drop, Ok, Err, vec_len, vec_capacity, Result, slice_index, slice_index_or}
 use Rattle.answers.specs.Room.{roomy}
-use Rattle.leaders.specs.Order.{Strict, beats, SameLeaders}
+use Rattle.leaders.specs.Order.{Strict, SameLeaders}
 use Rattle.leaders.specs.Sheet.{sheet}
 use Rattle.leaders.specs.Refusal.{Refusal, refusal, answered}
 use Rattle.leaders.specs.Verdict.{verdict}
@@ -19,7 +19,7 @@ use Rattle.board.specs.declared.call.BoardCall.TheVariants.{Take}
 use Rattle.board.specs.declared.call.BoardReply.{BoardReply}
 use Rattle.board.specs.declared.call.BoardReply.TheVariants.{Taken}
 use Rattle.rebuilding.specs.Rebuilding.{enough}
-use Rattle.board.specs.Sitting.{Sitting, sitting, Answers, Sat}
+use Rattle.board.specs.Sitting.{Sitting, Answers, Sat}
 use Rattle.sale.specs.declared.rehearsal.Lists.{Lists}
 
 -- After the calls f comes a cast into the punch n, which is accepted, and then come the calls g.

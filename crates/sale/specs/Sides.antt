@@ -1,5 +1,5 @@
 -- What a sale leaves of what it is lent.
-use Rattle.std.specs.Prelude.{◌≡◌, ℕ, List, map}
+use Rattle.std.specs.Prelude.{◌≡◌, ℕ, map}
 use Rattle.sale.specs.declared.rehearsal.BookSide.{BookSide}
 use Rattle.sale.specs.declared.rehearsal.BoardSide.{BoardSide}
 use Rattle.sale.specs.declared.rehearsal.RebuildSide.{RebuildSide}
