@@ -9,7 +9,7 @@ use crate::Panel;
 use crate::shown::Shown;
 use std::marker::PhantomData;
 
-/// How `N` cells show a pair of lots.
+/// How `N` cells show a pair of lots. For the two panels of this crate: `draw` is asked for lots only, as they have told them apart.
 pub trait Face<const N: usize> {
     // The cells that show it.
     ghost drawn: { Shown → List ℕ };
