@@ -39,7 +39,7 @@ impl From<BoardFault> for TurnFault {
 }
 
 impl TurnFault {
-    /// The number of the refusal, by which reply lines and C tell it; 0 where a page names no panel.
+    /// The number of the refusal, one for each case; 0 where a page names no panel.
     pub fn number(&self) -> u32
         ensures { result ≡ (told self.now).number }
     {

@@ -23,14 +23,15 @@ use std::alloc::{AllocError, Global};
 fn taken(reply: Result<u32, BoardFault>) -> Result<BoardReply, TurnFault>
     ensures { answered told result ≡ take_answer (answered board_told reply) }
 {
-    reply.map(BoardReply::Taken).map_err(TurnFault::Board)
+    Ok(BoardReply::Taken(reply?))
 }
 
 /// What a page answers, as the answer to a call of a list.
 fn paged(reply: Result<(), BoardFault>) -> Result<BoardReply, TurnFault>
     ensures { answered told result ≡ page_answer (answered board_told reply) }
 {
-    reply.map(|()| BoardReply::Paged).map_err(TurnFault::Board)
+    reply?;
+    Ok(BoardReply::Paged)
 }
 
 /// Performs one call on a board, beside some panels.

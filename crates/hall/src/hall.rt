@@ -28,6 +28,9 @@ impl<'a, K: Key + Copy> Hall<'a, K> {
         ensures lots { lots_in result ≡ [] }
         ensures bits { bits_in result ≡ [] }
         ensures terms { terms_in K.Key.made K.Key.at_least K.Key.FIELDS result ≡ terms K.Key.made K.Key.at_least K.Key.FIELDS (room_for (length list.old)) (letter_room text.old) (length work.old) }
+        ensures book { result.book.list.now ≡ list.old }
+        ensures punch { (result.punch.text.now ≡ text.old) × (result.punch.count ≡ 0) }
+        ensures numbers { result.work.now ≡ work.old }
         ensures lender { result.book.list.ghost_name ≡ list.entry.ghost_name }
         ensures home { result.punch.text.ghost_name ≡ text.entry.ghost_name }
         ensures numbers_home { result.work.ghost_name ≡ work.entry.ghost_name }

@@ -1,5 +1,5 @@
 -- Clips as keys, by their plain rows.
-use Rattle.std.specs.Prelude.{ℕ, Bool, cond, List, [], ◌∷◌, Some, None, Option, ◌==◌, nat_le, nat_lt}
+use Rattle.std.specs.Prelude.{◌≡◌, ℕ, Bool, true, cond, List, [], ◌∷◌, Some, None, Option, ◌==◌, nat_le, nat_lt}
 use Rattle.keys.specs.declared.clip.Clip.{Clip}
 use Rattle.keys.specs.declared.row.ClipRow.{ClipRow}
 use Rattle.keys.specs.Ranges.{in_range}
@@ -26,6 +26,10 @@ clip_made (w ∷ y ∷ s ∷ more ∷ rest) = None
 -- the row of a clip
 abbrev pub row_of : Clip → ClipRow
 row_of c = row_from c.width c.wool_yield c.strength
+
+-- the row has the fields of the clip, which are in range
+abbrev pub IsRow : Clip → ClipRow → Type 0
+IsRow c r = (r ≡ row_of c) × (in_range r.width r.wool_yield r.strength ≡ true)
 
 -- the row of the clip, if there is one
 abbrev pub row_in : Option Clip → Option ClipRow

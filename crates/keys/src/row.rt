@@ -1,6 +1,6 @@
 ghost use Rattle.std.specs.Prelude.{◌≡◌, true};
 ghost use Rattle.keys.specs.Ranges.{in_range};
-ghost use Rattle.keys.specs.Clips.{clip_at_least, clip_made, row_of, row_in};
+ghost use Rattle.keys.specs.Clips.{clip_at_least, clip_made, row_of, row_in, IsRow};
 ghost use Rattle.std.proofs.Common.{rules};
 
 use crate::clip::Clip;
@@ -32,15 +32,23 @@ impl Clip {
         })
     }
 
-    /// The clip's fields, which are in range: `From` could not say the second.
+    /// The clip's fields, which are in range.
     pub fn row(&self) -> ClipRow
         ensures fields { result ≡ row_of self.now }
         ensures ranged { in_range result.width result.wool_yield result.strength ≡ true }
     {
+        ClipRow::from(*self)
+    }
+}
+
+impl From<Clip> for ClipRow {
+    ghost from_gives = { IsRow };
+
+    fn from(clip: Clip) -> ClipRow {
         ClipRow {
-            width: self.width,
-            wool_yield: self.wool_yield,
-            strength: self.strength,
+            width: clip.width,
+            wool_yield: clip.wool_yield,
+            strength: clip.strength,
         }
     }
 }
@@ -64,17 +72,12 @@ impl Key for ClipRow {
 
     fn from_fields(fields: &[u32]) -> Option<ClipRow> {
         let clip = Clip::from_fields(fields)?;
-        Some(clip.row())
+        Some(clip.into())
     }
 
-    // No derive: the width counts downwards, and the field that differs first decides.
+    // No derive: a lower width is the better.
     fn at_least(&self, other: &ClipRow) -> bool {
-        if self.width != other.width {
-            return self.width < other.width;
-        }
-        if self.wool_yield != other.wool_yield {
-            return self.wool_yield > other.wool_yield;
-        }
-        self.strength >= other.strength
+        (other.width, self.wool_yield, self.strength)
+            >= (self.width, other.wool_yield, other.strength)
     }
 }

@@ -33,7 +33,7 @@ impl From<BookFault> for CallFault {
 }
 
 impl CallFault {
-    /// The number of the refusal, by which reply lines and C tell it; 0 where a cast names no punch.
+    /// The number of the refusal, one for each case; 0 where a cast names no punch.
     pub fn number(&self) -> u32
         ensures { result ≡ (told self.now).number }
     {

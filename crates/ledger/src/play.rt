@@ -21,7 +21,7 @@ use std::alloc::{AllocError, Global};
 fn carried(reply: Result<u32, BookFault>) -> Result<u32, CallFault>
     ensures { answered told result ≡ answered book_told reply }
 {
-    reply.map_err(CallFault::Book)
+    Ok(reply?)
 }
 
 /// Performs one call on a book, beside some punches and working numbers.

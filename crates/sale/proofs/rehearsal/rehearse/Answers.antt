@@ -52,10 +52,10 @@ returns g c =
     record {
       reply = c.if-not-have_room.ensures;
       promise = promise bits s held first (second work) _ kept also (all_answered (verdict bits) any.0 s (c.play_into-board_answers.ensures any.0 any.1).1) c.rebuild_from-lots.ensures;
-      first = record { lists = refl; punches = refl; rooms = c.play_into-first_answers.ensures.rooms; homes = c.play_into-first_answers.ensures.homes; calls = refl };
-      second = record { lists = refl; punches = refl; rooms = c.play_into-second_answers.ensures.rooms; homes = c.play_into-second_answers.ensures.homes; calls = refl };
-      board = record { tape = refl; panels = refl; calls = refl };
-      rebuilt = record { prices = refl; work = refl };
+      first = record { lists = refl; places = c.play_into-first_answers.auto.list; punches = refl; rooms = c.play_into-first_answers.ensures.rooms; homes = c.play_into-first_answers.ensures.homes; calls = refl };
+      second = record { lists = refl; places = c.play_into-second_answers.auto.list; punches = refl; rooms = c.play_into-second_answers.ensures.rooms; homes = c.play_into-second_answers.ensures.homes; calls = refl };
+      board = record { tape = refl; panels = refl; many = c.play_into-board_answers.auto.panels; calls = refl };
+      rebuilt = record { prices = refl; places = c.rebuild_from-lots.auto.prices; work = refl; numbers = c.rebuild_from-lots.auto.work };
       rest = c.play_into-second_answers.ensures.rest ∙ c.play_into-first_answers.ensures.rest;
       unplayed = tt;
     }
