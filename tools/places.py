@@ -36,24 +36,32 @@ def lines_with(files, pattern):
     return found
 
 
-FUNCTION = re.compile(r"^( *)(?:pub(?:\([a-z]+\))? )?(?:extern \"C\" )?fn (\w+)(.*?)^\1\{\n(.*?)^\1\}", re.M | re.S)
+FUNCTION = re.compile(r"( *)(?:pub(?:\([a-z]+\))? )?(?:extern \"C\" )?fn (\w+)(.*)")
 
 
 def functions(files):
-    """Each function: its place, its name, its parameters, its clauses and its body."""
+    """Each function with a body: its place, its name, its parameters, its clauses and its body."""
     for name, text in files.items():
-        for match in FUNCTION.finditer(text):
-            head, body = match.group(3), match.group(4)
+        lines = text.split("\n")
+        for number, line in enumerate(lines):
+            match = FUNCTION.fullmatch(line)
+            if not match:
+                continue
+            first = next(at for at in range(number, len(lines)) if lines[at].endswith(";") or lines[at].endswith(("{", "}")) and not re.match(r"\s*(requires|ensures)", lines[at]))
+            if not lines[first].endswith("{"):
+                continue
+            last = next(at for at in range(first, len(lines)) if lines[at] == match.group(1) + "}")
+            head = "\n".join([match.group(3), *lines[number + 1 : first + 1]])
             end = re.search(r"^\s*(requires|ensures)", head, re.M)
-            line = text.count("\n", 0, match.start()) + 1
-            yield f"{name}:{line}: {match.group(2)}", head[: end.start()] if end else head, head[end.start():] if end else "", body
+            at = end.start() if end else len(head)
+            yield f"{name}:{number + 1}: {match.group(2)}", head[:at], head[at:], "\n".join(lines[first + 1 : last])
 
 
 def twins(files):
     """Functions of three lines or more whose bodies are the same but for names and literals."""
     groups = collections.defaultdict(list)
     for place, _, _, body in functions(files):
-        if body.count("\n") >= 3 and "_cases/" not in place:
+        if body.count("\n") >= 2:
             shape = re.sub(r"\b[A-Za-z_]\w*(::[A-Za-z_]\w*)*|\b\d[\d_]*|'[^']*'|b?\"[^\"]*\"", "x", body)
             groups[re.sub(r"\s+", " ", shape)].append(place)
     return [" = ".join(places) for places in groups.values() if len(places) > 1]
@@ -92,7 +100,8 @@ def points(files):
         "1 a refusal's number": lines_with(files, r"fn number\("),
         "2 functions that differ in names and literals only": twins(files),
         "2 a constant of one name in several files": repeated_constants(files),
-        "3 a loop over a range or with `while`": lines_with(files, r"^\s*(for \w+ in [^{]*\.\.|while )"),
+        "3 a loop over a range or with `while`": lines_with(files, r"^\s*(for \w+ in [^{\[]*\.\.|while )"),
+        "3 a count that a loop keeps by hand": lines_with(files, r"^\s*\w+ (\+= 1|= \w+\.(saturating|wrapping)_add\(1\));"),
         "4 a type with no equality or printing": lines_with(files, r"#\[derive\(Clone, Copy\)\]|#\[derive\(Drop\)\]"),
         "4 a conversion or a text written by hand": lines_with(files, r"fn (\w+_of|from_\w+|numbers|row|fault_text|tell_refusal|carried|taken|paged|both|hex_digit|push_hex)\b"),
         "5 a fact or a term that three functions repeat": repeated_facts(files),

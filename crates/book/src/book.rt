@@ -42,8 +42,8 @@ impl<'a, K: Key + Copy> Book<'a, K> {
     pub fn len(&self) -> u32
         ensures { result ≡ length (keys_in self.now) }
     {
-        let most = self.count.min(4000);
-        (most as usize).min(self.list.len()) as u32
+        let most = (self.count as usize).min(PLACES);
+        most.min(self.list.len()) as u32
     }
 
     /// Adds a lot at the end, and says how many there are now.
@@ -57,7 +57,7 @@ impl<'a, K: Key + Copy> Book<'a, K> {
         };
         let n = self.len();
         let at = n as usize;
-        if at >= self.list.len().min(4000) {
+        if at >= self.list.len().min(PLACES) {
             return Err(BookFault::BookFull);
         }
         put(self.list, at, key);

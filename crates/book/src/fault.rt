@@ -27,7 +27,7 @@ impl From<CastFault> for BookFault {
 }
 
 impl BookFault {
-    /// The number of the refusal: reply lines and C tell it by that.
+    /// The number of the refusal: reply lines tell it by that.
     pub fn number(&self) -> u32
         ensures { result ≡ (told self.now).number }
     {

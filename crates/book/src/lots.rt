@@ -3,6 +3,7 @@
 ghost use Rattle.std.specs.Prelude.{min, length};
 ghost use Rattle.leaders.specs.Order.{beats};
 
+use crate::book::PLACES;
 use casting::Lots;
 use keys::key::{Key, ahead};
 
@@ -18,7 +19,7 @@ impl<'a, K: Key> Lots for KeyLots<'a, K> {
     ghost count = { λ l. min (length l.keys.now) 4000 };
 
     fn len(&self) -> usize {
-        self.keys.len().min(4000)
+        self.keys.len().min(PLACES)
     }
 
     fn beats(&self, i: usize, j: usize) -> bool {

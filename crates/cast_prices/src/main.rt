@@ -8,10 +8,8 @@ use std::io::Write;
 
 /// Adds the prices on standard input to the book, and tells of each line that is none.
 fn read_prices(rt: &HostRuntime, book: &mut Book<'_, Price>) -> anyhow::Result<()> {
-    let mut number = 0u32;
-    for line in rt.lines(rt.alloc()) {
+    for (number, line) in (1u64..).zip(rt.lines(rt.alloc())) {
         let text = line?;
-        number = number.saturating_add(1);
         match text.parse::<u32>() {
             Ok(cents) => {
                 if let Err(fault) = book.add(&[cents]) {

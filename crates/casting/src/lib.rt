@@ -42,7 +42,7 @@ pub enum CastFault {
 }
 
 impl CastFault {
-    /// The number of the refusal: reply lines and C tell it by that.
+    /// The number of the refusal: reply lines tell it by that, a book's and a hall's.
     pub fn number(&self) -> u32
         ensures { result ≡ (told self.now).number }
     {

@@ -21,7 +21,7 @@ pub struct Place {
     pub best: u32,
 }
 
-/// The links of node 0 and of `n` lots, while they are made.
+/// The links of node 0 and of `n` lots, while they are made. `n` stands beside the lists, since node 0 has a place in each that is no lot's.
 #[derive(Drop)]
 pub struct Links<'a> {
     pub n: usize,

@@ -3,6 +3,7 @@
 ghost use Rattle.std.specs.Prelude.{◌≡◌, Some, MatchResult};
 ghost use Rattle.packing.specs.Texts.{trimmed, LetteredSheet, Faulty, text_of_fault};
 
+use bits::tape::MOST_BITS;
 use std::fmt;
 
 /// Why a text is no lettered sheet. The first that applies is told, in this order.
@@ -33,9 +34,6 @@ impl fmt::Display for LetterFault {
     }
 }
 
-/// The most letters of a sheet.
-const MOST_LETTERS: usize = 32_768;
-
 /// The text without a line feed at its end.
 fn without_line_feed(text: &[u8]) -> &[u8]
     ensures { result.now ≡ trimmed text.now }
@@ -54,7 +52,7 @@ pub fn letters_of(text: &[u8]) -> Result<&[u8], LetterFault>
     if letters.is_empty() {
         return Err(LetterFault::Empty);
     }
-    if letters.len() > MOST_LETTERS {
+    if letters.len() > MOST_BITS {
         return Err(LetterFault::TooLong);
     }
     match letters.iter().position(|b| *b != b'(' && *b != b')') {

@@ -95,13 +95,12 @@ fn room_case(
     numbers: usize,
 ) -> anyhow::Result<()> {
     let done = rebuild(rt, letters, takes, prices, numbers)?;
-    let mut same = 0u32;
-    for number in done.numbers.iter().rev() {
-        if *number != FILL {
-            break;
-        }
-        same = same.saturating_add(1);
-    }
+    let same = done
+        .numbers
+        .iter()
+        .rev()
+        .take_while(|number| **number == FILL)
+        .count();
     tell(rt, done.answer, done.prices.as_slice())?;
     println!(rt; " {same}")?;
     Ok(())
