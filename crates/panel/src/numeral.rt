@@ -20,6 +20,7 @@ pub(crate) fn write(cells: &mut [u8], end: usize, n: u32, glyphs: &[u8; 10])
     ensures { cells.new ≡ inked cells.old end (numeral glyphs.now n) }
 {
     let mut left = n;
+    // By the place, from `end` back: what is said of the digits left is said of the place reached.
     for at in (end - width(n)..end).rev() {
         cells[at] = glyphs[(left % 10) as usize];
         left /= 10;
