@@ -73,13 +73,19 @@ pub struct Mark {
     pub at: usize,
 }
 
-/// What a reader has seen on its way back: where the number of the best lot begins, the best lot behind it, if there is one, and the children of the best behind that one.
+/// The best lot behind another, and the children that the other has after it.
+#[derive(Clone, Copy)]
+pub struct Behind {
+    pub lot: u32,
+    pub later: usize,
+}
+
+/// What a reader has seen on its way back: where the number of the best lot begins, and what is behind it, if it is not the last.
 #[derive(Clone, Copy)]
 pub struct Sweep {
     pub all: Climb,
     pub here: usize,
-    pub right: Option<u32>,
-    pub later: usize,
+    pub right: Option<Behind>,
 }
 
 /// Back over the number of `before`, the lot before, which has so many children.
@@ -96,15 +102,16 @@ pub(crate) fn widen(s: Sweep, before: Mark, children: usize) -> Sweep
         Sweep {
             all,
             here: before.at,
-            right: Some(s.all.best),
-            later: children - s.all.above - 1,
+            right: Some(Behind {
+                lot: s.all.best,
+                later: children - s.all.above - 1,
+            }),
         }
     } else {
         Sweep {
             all,
             here: s.here,
             right: s.right,
-            later: s.later,
         }
     }
 }
@@ -122,7 +129,6 @@ pub(crate) fn sweep_back<T: Tape>(tape: &T, low: u32, high: Mark) -> Sweep
         all: start_at(high.lot),
         here: high.at,
         right: None,
-        later: 0,
     };
     for lot in (low..high.lot).rev() {
         let end = at - 1;
