@@ -6,7 +6,7 @@ ghost use Rattle.leaders.specs.Verdict.{closes, has_too_many, lowest, walk, walk
 ghost use Rattle.reading.specs.Faults.{told, sentence};
 ghost use Rattle.reading.specs.Lots.{lot_number, is_lot};
 
-use crate::path::Path;
+use crate::path::{MOST_BRACKETS, Path};
 use bits::iter::Bits;
 use bits::tape::Tape;
 use bits::views::Window;
@@ -59,9 +59,6 @@ impl fmt::Display for SheetFault {
         }
     }
 }
-
-/// The most bits that the brackets of a sheet have: two for each of 4,000 lots, and two around them.
-const MOST_BRACKETS: usize = 8_002;
 
 /// Where the brackets first balance.
 fn balance<T: Tape>(tape: &T) -> Option<usize>
@@ -118,7 +115,7 @@ fn first_bad(lot: u32, bad: Option<u32>, wrong: bool) -> Option<u32>
 
 /// Over the brackets, `m` bits.
 fn walk_over<T: Tape>(tape: &T, m: usize) -> Walk
-    requires { (m ≤ 8002) × (m ≤ length (T.Tape.bits tape.now)) }
+    requires { (m ≤ MOST_BRACKETS) × (m ≤ length (T.Tape.bits tape.now)) }
     ensures { walked result.at (lot_number result.bad) ≡ walk (T.Tape.bits tape.now) 0 [] 0 m 0 (drop 1 (take m (T.Tape.bits tape.now))) }
 {
     let mut path = Path::new();
