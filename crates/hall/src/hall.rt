@@ -29,7 +29,7 @@ impl<'a, K: Key + Copy> Hall<'a, K> {
         ensures bits { bits_in result ≡ [] }
         ensures terms { terms_in K.Key.made K.Key.at_least K.Key.FIELDS result ≡ terms K.Key.made K.Key.at_least K.Key.FIELDS (room_for (length list.old)) (letter_room text.old) (length work.old) }
         ensures lender { result.book.list.ghost_name ≡ list.entry.ghost_name }
-        ensures home { result.punch.text.ghost_name ≡ text.entry.ghost_name }
+        ensures home { result.punch.bytes.ghost_name ≡ text.entry.ghost_name }
         ensures numbers_home { result.work.ghost_name ≡ work.entry.ghost_name }
     {
         Hall {
