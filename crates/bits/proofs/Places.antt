@@ -3,8 +3,8 @@ use Rattle.std.proofs.Common.{◌≡◌, ℕ, zero, suc, ◌+◌, ◌-◌, ◌<�
 use Rattle.std.specs.List.{slice_get, filter, range_with_len}
 use Rattle.std.specs.Option.{option_eq, option_map}
 use mathlib.Core.Bool.{beq}
-use Rattle.std.proofs.lemmas.List.{length-drop}
-use Rattle.bits.specs.Bits.{ones, rank_of, Select}
+use Rattle.std.proofs.lemmas.List.{length-drop, length-map}
+use Rattle.bits.specs.Bits.{ones, rank_of, which_are, Select}
 use Rattle.bits.proofs.Bitlists.{nth_drop}
 
 -- whether the bit at i is there and is b
@@ -22,6 +22,15 @@ zeros_at [] i h = absurd (omega arith)
 zeros_at (true ∷ bs) zero h = refl
 zeros_at (false ∷ bs) zero h = refl
 zeros_at (b ∷ bs) (suc i) h = zeros_at bs i (omega arith)
+
+-- the bits that are b, by place
+pub those_at : (bs : List Bool) (b : Bool) (i : ℕ) → i < length bs → slice_get (which_are b bs) i ≡ Some (is_at bs b i)
+those_at bs true i h = ones_at bs i h
+those_at bs false i h = zeros_at bs i h
+
+pub length_those : (bs : List Bool) (b : Bool) → length (which_are b bs) ≡ length bs
+length_those bs true = refl
+length_those bs false = length-map bs not
 
 -- f tells the first n bits of bs, from number a on
 abbrev pub Tells : (ℕ → Bool) → ℕ → ℕ → List Bool → Type 0

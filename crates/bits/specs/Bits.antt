@@ -1,5 +1,5 @@
 -- Lists of bits: the bit at a place, how many are ones, and where.
-use Rattle.std.specs.Prelude.{◌≡◌, ℕ, ◌+◌, ◌<◌, Bool, true, false, ◌⊎◌, List, [], ◌∷◌, map, take, drop, Some, None, Option, ◌==◌}
+use Rattle.std.specs.Prelude.{◌≡◌, ℕ, ◌+◌, ◌<◌, Bool, true, false, not, ◌⊎◌, List, [], ◌∷◌, map, take, drop, Some, None, Option, ◌==◌}
 use Rattle.std.specs.List.{slice_get}
 
 -- a bit as a number
@@ -25,6 +25,11 @@ bit_at bs p = slice_get bs p
 abbrev pub Select : List Bool → ℕ → Option ℕ → Type 0
 Select bs j None = (j ≡ 0) ⊎ (ones bs < j)
 Select bs j (Some p) = (bit_at bs p ≡ Some true) × (rank_of bs p + 1 ≡ j)
+
+-- which bits are b: a one where the bit is b, a zero where it is not
+abbrev pub which_are : Bool → List Bool → List Bool
+which_are true bs = bs
+which_are false bs = map not bs
 
 -- a letter as a bit: `(` is 1, every other byte 0
 abbrev pub is_open : ℕ → Bool

@@ -1,9 +1,10 @@
 //! Punches: bits written one after another into lent memory.
 
 ghost use Rattle.std.specs.Prelude.{◌≡◌, ℕ, ◌≤◌, Bool, List, [], length};
-ghost use Rattle.bits.specs.Bits.{lettered};
-ghost use Rattle.bits.specs.Punching.{Appends, Lettered, letter, letters, letter_room};
+ghost use Rattle.std.proofs.Common.{refl};
+ghost use Rattle.bits.specs.Punching.{Appends, letter, letters, letter_room, put_letter};
 
+use crate::byte_punch::{BytePunch, Cells, TapeCells};
 use crate::tape::{LetteredTape, MOST_BITS};
 
 /// The capacity is reached: there is no room for another bit.
@@ -50,70 +51,36 @@ pub fn letter_of(bit: bool) -> u8
     if bit { b'(' } else { b')' }
 }
 
+/// The cells of letters, one to a bit, 32,768 at most: `(` for 1 and `)` for 0.
+pub struct Letters;
+
 /// One letter to a bit in lent bytes, with their count beside them since nothing is allocated, 32,768 at most: `(` for 1 and `)` for 0.
-#[derive(Drop)]
-pub struct LetteredPunch<'a> {
-    pub text: &'a mut [u8],
-    pub count: usize,
-}
+pub type LetteredPunch<'a> = BytePunch<'a, Letters>;
 
-impl<'a> Punch for LetteredPunch<'a> {
-    ghost written = { λ p. letters p.text.now p.count };
+impl Cells for Letters {
+    ghost bits = { letters };
 
-    ghost room = { λ p. letter_room p.text.now };
+    ghost room = { letter_room };
 
-    ghost home = { λ p. p.text.ghost_name };
+    ghost put = { put_letter };
 
-    fn capacity(&self) -> usize {
-        self.text.len().min(MOST_BITS)
+    ghost none = { λ text. refl };
+
+    fn room_of(bytes: &[u8]) -> usize {
+        bytes.len().min(MOST_BITS)
     }
 
-    fn len(&self) -> usize {
-        self.count.min(self.capacity())
-    }
-
-    fn clear(&mut self)
-        ensures empty { letters self.new.text.now self.new.count ≡ [] }
-        ensures room { letter_room self.new.text.now ≡ letter_room self.old.text.now }
-        ensures home { self.new.text.ghost_name ≡ self.old.text.ghost_name }
-        ensures bytes { self.new.text.now ≡ self.old.text.now }
-        ensures none { self.new.count ≡ 0 }
-    {
-        self.count = 0;
-    }
-
-    fn append(&mut self, bit: bool) -> Result<(), Full>
-        ensures bits { Appends result (letter_room self.old.text.now) (letters self.old.text.now self.old.count) (letters self.new.text.now self.new.count) bit }
-        ensures room { letter_room self.new.text.now ≡ letter_room self.old.text.now }
-        ensures home { self.new.text.ghost_name ≡ self.old.text.ghost_name }
-        ensures bytes { Lettered result self.old.text.now self.old.count bit self.new.text.now self.new.count }
-    {
-        if self.count < self.capacity() {
-            self.text[self.count] = letter_of(bit);
-            self.count += 1;
-            Ok(())
-        } else {
-            Err(Full)
-        }
+    fn put_bit(bytes: &mut [u8], p: usize, bit: bool) {
+        bytes[p] = letter_of(bit);
     }
 }
 
-impl<'a> LetteredPunch<'a> {
-    /// A punch over `text` with no bits.
-    pub fn new(text: &'a mut [u8]) -> Self
-        ensures bytes { result.text.now ≡ text.old }
-        ensures home { result.text.ghost_name ≡ text.entry.ghost_name }
-        ensures none { result.count ≡ 0 }
-    {
-        LetteredPunch { text, count: 0 }
-    }
+impl<'b> TapeCells<'b> for Letters {
+    type Tape = LetteredTape<'b>;
 
-    /// A tape over what is written.
-    pub fn tape(&self) -> LetteredTape<'_>
-        ensures { lettered result.text.now ≡ letters self.now.text.now self.now.count }
-    {
+    fn tape_over(bytes: &'b [u8], count: usize) -> LetteredTape<'b> {
         LetteredTape {
-            text: &self.text[0..self.len()],
+            text: &bytes[..count.min(bytes.len())],
         }
     }
 }

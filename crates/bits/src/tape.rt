@@ -1,7 +1,7 @@
 //! Tapes: fixed lists of bits, read by place, by rank and by select.
 
 ghost use Rattle.std.specs.Prelude.{◌≡◌, ◌≤◌, Bool, true, not, List, map, length, Decides};
-ghost use Rattle.bits.specs.Bits.{rank_of, bit_at, Select, lettered};
+ghost use Rattle.bits.specs.Bits.{rank_of, bit_at, which_are, Select, lettered};
 ghost use Rattle.bits.specs.Laws.{Agrees, OneSelect};
 
 /// The most bits that a tape shows and a punch takes.
@@ -30,23 +30,27 @@ pub trait Tape {
             .count()
     }
 
+    /// The place of the `j`-th bit that is `bit`, counted from 1: absent if `j` is 0 or too large.
+    fn place(&self, bit: bool, j: usize) -> Option<usize>
+        ensures { Select (which_are bit (bits self.now)) j result }
+    {
+        (0..self.len())
+            .filter(|p| self.get(*p) == Some(bit))
+            .nth(j.checked_sub(1)?)
+    }
+
     /// The place of the `j`-th one, counted from 1: absent if `j` is 0 or too large.
     fn select(&self, j: usize) -> Option<usize>
         ensures { Select (bits self.now) j result }
     {
-        (0..self.len())
-            .filter(|p| self.get(*p) == Some(true))
-            .nth(j.checked_sub(1)?)
+        self.place(true, j)
     }
 
     /// The place of the `j`-th zero, counted from 1: absent if `j` is 0 or too large.
-    // One function for both bits would be generic in the tape, and the trait's own bodies cannot be proved by it: they would lead back to themselves.
     fn select_zero(&self, j: usize) -> Option<usize>
         ensures { Select (map not (bits self.now)) j result }
     {
-        (0..self.len())
-            .filter(|p| self.get(*p) == Some(false))
-            .nth(j.checked_sub(1)?)
+        self.place(false, j)
     }
 }
 

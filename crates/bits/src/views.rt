@@ -67,6 +67,10 @@ impl<'a, T: Tape> Tape for &'a T {
         T::rank(*self, p)
     }
 
+    fn place(&self, bit: bool, j: usize) -> Option<usize> {
+        T::place(*self, bit, j)
+    }
+
     fn select(&self, j: usize) -> Option<usize> {
         T::select(*self, j)
     }

@@ -3,6 +3,7 @@
 use bits::punch::{LetteredPunch, Punch};
 use bits::tape::Tape;
 use packed::punch::PackedPunch;
+use std::marker::PhantomData;
 
 #[test]
 fn a_full_punch_keeps_its_bits(rt: HostRuntime) {
@@ -32,6 +33,7 @@ fn clear_writes_nothing(rt: HostRuntime) {
     let mut punch = PackedPunch {
         bytes: &mut bytes,
         count: 3,
+        cells: PhantomData,
     };
     punch.clear();
     assert_eq!(rt; punch.len(), 0);

@@ -66,9 +66,9 @@ module _ {K : Type 0} (t : Terms K) (before : Hall K) (asked : Option Asked) whe
 -- what no line changes are the terms
 pub terms_kept : {K : Type 0} (made : List ℕ → Option K) (at_least : K → K → Bool) (arity : ℕ) (before after : Hall K) → Kept before after → terms_in made at_least arity after ≡ terms_in made at_least arity before
 terms_kept made at_least arity before after kept =
-    ap (λ z. terms made at_least arity (room_for z) (letter_room after.punch.text.now) (length after.work.now)) kept.places
+    ap (λ z. terms made at_least arity (room_for z) (letter_room after.punch.bytes.now) (length after.work.now)) kept.places
     ∙ ap (λ z. terms made at_least arity (room_for (length before.book.list.now)) z (length after.work.now)) kept.room
-    ∙ ap (λ z. terms made at_least arity (room_for (length before.book.list.now)) (letter_room before.punch.text.now) z) kept.numbers
+    ∙ ap (λ z. terms made at_least arity (room_for (length before.book.list.now)) (letter_room before.punch.bytes.now) z) kept.numbers
 
 -- a call on the book, and a cast, keep what no line changes
 pub book_kept : {K : Type 0} (before : Hall K) (book : Book K) → length book.list.now ≡ length before.book.list.now → book.list.ghost_name ≡ before.book.list.ghost_name → Kept before (record before { book = book })

@@ -17,15 +17,15 @@ lots_in h = keys_in h.book
 
 -- The bits in its punch.
 abbrev pub bits_in : {K : Type 0} → Hall K → List Bool
-bits_in h = letters h.punch.text.now h.punch.count
+bits_in h = letters h.punch.bytes.now h.punch.count
 
 -- Its terms, for a kind of key: how many lots, bits and working numbers it has room for.
 abbrev pub terms_in : {K : Type 0} → (List ℕ → Option K) → (K → K → Bool) → ℕ → Hall K → Terms K
-terms_in made at_least arity h = terms made at_least arity (room_for (length h.book.list.now)) (letter_room h.punch.text.now) (length h.work.now)
+terms_in made at_least arity h = terms made at_least arity (room_for (length h.book.list.now)) (letter_room h.punch.bytes.now) (length h.work.now)
 
 -- What a cast of its book comes to.
 abbrev pub cast_in : {K : Type 0} → (K → K → Bool) → Hall K → Casting
-cast_in at_least h = cast_sheet (sheet_of at_least (lots_in h)) (length (lots_in h)) (letter_room h.punch.text.now) (length h.work.now) (bits_in h)
+cast_in at_least h = cast_sheet (sheet_of at_least (lots_in h)) (length (lots_in h)) (letter_room h.punch.bytes.now) (length h.work.now) (bits_in h)
 
 -- The reply to a page of a board that has taken these bits, by an order whose sheet they are.
 abbrev pub page_over : (ℕ → ℕ → Bool) → List Bool → ℕ → ℕ → List ℕ
@@ -45,8 +45,8 @@ Replied {K} t h asked r before after = (shown : Option (List K)) → Stands t.at
 pub record Kept {K : Type 0} (before after : Hall K) : Type 0 where
   pub places : length after.book.list.now ≡ length before.book.list.now
   pub lender : after.book.list.ghost_name ≡ before.book.list.ghost_name
-  pub room : letter_room after.punch.text.now ≡ letter_room before.punch.text.now
-  pub home : after.punch.text.ghost_name ≡ before.punch.text.ghost_name
+  pub room : letter_room after.punch.bytes.now ≡ letter_room before.punch.bytes.now
+  pub home : after.punch.bytes.ghost_name ≡ before.punch.bytes.ghost_name
   pub numbers : length after.work.now ≡ length before.work.now
   pub numbers_home : after.work.ghost_name ≡ before.work.ghost_name
   pub rest : drop 16004 after.work.now ≡ drop 16004 before.work.now

@@ -32,7 +32,7 @@ impl<'a, K: Key + Copy> Hall<'a, K> {
         ensures punch { (result.punch.text.now ≡ text.old) × (result.punch.count ≡ 0) }
         ensures numbers { result.work.now ≡ work.old }
         ensures lender { result.book.list.ghost_name ≡ list.entry.ghost_name }
-        ensures home { result.punch.text.ghost_name ≡ text.entry.ghost_name }
+        ensures home { result.punch.bytes.ghost_name ≡ text.entry.ghost_name }
         ensures numbers_home { result.work.ghost_name ≡ work.entry.ghost_name }
     {
         Hall {

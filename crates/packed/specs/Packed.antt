@@ -1,6 +1,7 @@
 -- Bits that are packed into bytes, the highest bit of each byte first.
-use Rattle.std.specs.Prelude.{◌≡◌, ℕ, zero, suc, ◌+◌, ◌-◌, ◌*◌, ◌/◌, ◌%◌, ◌^◌, ◌<◌, min, Bool, false, List, [], ◌∷◌, ◌++◌, length, take, replicate, Ok, Err, Result, ◌==◌, slice_index, slice_set}
+use Rattle.std.specs.Prelude.{◌≡◌, ℕ, zero, suc, ◌+◌, ◌-◌, ◌*◌, ◌/◌, ◌%◌, ◌^◌, ◌<◌, min, Bool, false, List, [], ◌∷◌, ◌++◌, length, take, replicate, Result, ◌==◌, slice_index, slice_set}
 use Rattle.bits.specs.Bits.{one}
+use Rattle.bits.specs.Punching.{AppendsBy}
 
 -- the k lowest bits of a number, the highest of them first
 abbrev pub bits_of : ℕ → ℕ → List Bool
@@ -28,7 +29,10 @@ put_bit byte r bit = (byte / 2 ^ (7 - r) / 2 * 2 + one bit) * 2 ^ (7 - r)
 abbrev pub PutBitLaw : Type 0
 PutBitLaw = (byte r : ℕ) (bit : Bool) → r < 8 → bits_of 8 (put_bit byte r bit) ≡ take r (bits_of 8 byte) ++ bit ∷ replicate (7 - r) false
 
+-- bytes into which a bit is put at place n
+abbrev pub put_at : List ℕ → ℕ → Bool → List ℕ
+put_at bytes n bit = slice_set bytes (n / 8) (put_bit (slice_index bytes (n / 8)) (n % 8) bit)
+
 -- an accepted append puts the bit into one byte; a refused one changes neither the bytes nor their count of bits
 abbrev pub Puts : {E : Type 0} → Result (Unit {0}) E → List ℕ → ℕ → Bool → List ℕ → ℕ → Type 0
-Puts (Ok u) bytes n bit bytes' n' = (bytes' ≡ slice_set bytes (n / 8) (put_bit (slice_index bytes (n / 8)) (n % 8) bit)) × (n' ≡ n + 1)
-Puts (Err e) bytes n bit bytes' n' = (bytes' ≡ bytes) × (n' ≡ n)
+Puts r bytes n bit bytes' n' = AppendsBy put_at r bytes n bit bytes' n'

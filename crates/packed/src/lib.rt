@@ -4,3 +4,5 @@
 mod bytes;
 pub mod punch;
 pub mod tape;
+#[cfg(test)]
+mod tests;

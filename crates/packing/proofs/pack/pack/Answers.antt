@@ -18,7 +18,7 @@ loop-bit-preserved g c =
     let new = c.append.new.self.bytes.now in
     let put = c.in_ok-append.ensures.bytes in
     let same : c.loop-bit.punch.count ≡ i = c.loop-bit.invariant.1 in
-    let fits : i < packed_room now = omega (arith, turn, ap length all, c.len-n.ensures.is, c.capacity.ensures, c.loop-bit.invariant.2) in
+    let fits : i < packed_room now = omega (arith, turn, ap length all, c.len-n.ensures.is, c.capacity.ensures.is, c.loop-bit.invariant.2) in
     let at : new ≡ set now (i / 8) (put_bit (get_or now (i / 8) 0) (i % 8) bit) = put.0 ∙ ap (λ k. set now (k / 8) (put_bit (get_or now (k / 8) 0) (k % 8) bit)) same in
     let more : length (xs ++ bit ∷ []) ≡ i + 1 = length_push xs bit in
     let packs : PackedInto (xs ++ bit ∷ []) (i + 1) c.new-punch.result.bytes.now new = fills_more xs i bit c.new-punch.result.bytes.now now new c.loop-bit.invariant.0 fits at in
@@ -42,4 +42,4 @@ returns-in_err-append g c =
     let all : bits_between (g.T.Tape.bits c.into_iter-bit-iterator.result.tape.now) c.into_iter-bit-iterator.result.from c.into_iter-bit-iterator.result.upto ≡ g.T.Tape.bits c.args.tape.now = search rules in
     let turn = (not_all (λ s. bits_between (g.T.Tape.bits s.tape.now) s.from s.upto) c.into_iter-bit-iterator.result c.loop-bit.bit-iterator xs c.loop-bit.yielded_by c.next.result c.next.new.self c.in-Some.bit c.in-Some.is c.next.ensures.steps) in
     absurd (never_full xs (length xs) c.loop-bit.punch.count c.new-punch.result.bytes.now c.loop-bit.punch.bytes.now c.loop-bit.invariant.0 c.loop-bit.invariant.1
-    (omega (arith, turn, ap length all, c.len-n.ensures.is, c.capacity.ensures)) c.loop-bit.invariant.2 c.in_err-append.ensures.bits.0)
+    (omega (arith, turn, ap length all, c.len-n.ensures.is, c.capacity.ensures.is)) c.loop-bit.invariant.2 c.in_err-append.ensures.bits.0)

@@ -1,8 +1,0 @@
-use Rattle.std.proofs.Common.{arith}
-use Rattle.packed.proofs.Packing.{length_packed}
-use Rattle.packed.proofs.punch.PackedPunchPunch.len.Goals as goal
-
-pub returns : goal.returns
-returns c =
-    let e = length_packed c.args.self.now.bytes.now c.args.self.now.count in
-    record { is = omega (arith, c.capacity.ensures); within = omega (arith, c.capacity.ensures) }
