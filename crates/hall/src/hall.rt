@@ -29,7 +29,7 @@ impl<'a, K: Key + Copy> Hall<'a, K> {
         ensures bits { bits_in result ≡ [] }
         ensures terms { terms_in K.Key.made K.Key.at_least K.Key.FIELDS result ≡ terms K.Key.made K.Key.at_least K.Key.FIELDS (room_for (length list.old)) (letter_room text.old) (length work.old) }
         ensures book { result.book.list.now ≡ list.old }
-        ensures punch { (result.punch.text.now ≡ text.old) × (result.punch.count ≡ 0) }
+        ensures punch { (result.punch.bytes.now ≡ text.old) × (result.punch.count ≡ 0) }
         ensures numbers { result.work.now ≡ work.old }
         ensures lender { result.book.list.ghost_name ≡ list.entry.ghost_name }
         ensures home { result.punch.bytes.ghost_name ≡ text.entry.ghost_name }
