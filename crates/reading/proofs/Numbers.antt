@@ -13,7 +13,7 @@ use Rattle.reading.specs.declared.place.Way.{Way}
 use Rattle.reading.specs.declared.place.Ways.{Ways}
 use Rattle.reading.specs.Climbing.{at, climb}
 use Rattle.reading.specs.Place.{after, lones, Begins, Number, Lone, lonely}
-use Rattle.reading.specs.Reading.{reach, On, Rooted, behind, Widened, Swept, Stepped, Goes, Front}
+use Rattle.reading.specs.Reading.{reach, On, Rooted, Widened, Swept, Stepped, Goes, Front}
 use Rattle.reading.proofs.Climbs.{climb_append, unary_few, unary_many, same}
 use Rattle.reading.proofs.Marks.{after_add}
 
@@ -264,9 +264,6 @@ rooted_start bs m i s e h =
 
 -- ---- a sweep
 
-same_behind : (a b c d : ℕ) → a ≡ b → c ≡ d → Some (behind a c) ≡ Some (behind b d)
-same_behind a b c d p q = cc
-
 pub swept_back : (bs : List Bool) (m j p r : ℕ) (s t : Sweep) → Begins bs (suc m) p → 1 ≤ m → suc m ≤ j → r ≤ p - 1 → Number bs (p - 1) r → s.all.lot ≡ suc m → Swept bs (suc m) j s → t.all ≡ climb (unary (p - 1 - r)) s.all → Widened s r (p - 1 - r) t → Swept bs m j t
 swept_back bs m j p r s t h k l g n lot w a v = elim (cases_lt s.all.above (p - 1 - r)) [
   | inl d ↦
@@ -281,8 +278,8 @@ swept_back bs m j p r s t h k l g n lot w a v = elim (cases_lt s.all.above (p - 
         upto = omega arith;
         here = subst (Begins bs t.all.best) (sym x.0) (subst (λ b. Begins bs b r) (sym best) there);
         none = λ e. absurd (omega arith);
-        right = λ e. x.1 ∙ same_behind _ _ _ _ (ap (λ z. z.best) w.all ∙ ap (λ b. (reach bs b j).best) (sym next))
-            (omega (arith, ap (λ z. z.above) w.all, ap (λ b. (reach bs b j).above) next, begins_after bs (suc m) p h, begins_after bs m r there, ap (λ b. after b bs) next, ap (λ b. after b bs) best));
+        right = λ e. x.1 ∙ ap Some (ap (λ z. z.best) w.all ∙ ap (λ b. (reach bs b j).best) (sym next));
+        later = λ e. omega (arith, x.2, ap (λ z. z.above) w.all, ap (λ b. (reach bs b j).above) next, begins_after bs (suc m) p h, begins_after bs m r there, ap (λ b. after b bs) next, ap (λ b. after b bs) best);
       }
   | inr d ↦
       let x = v.1 d in
@@ -294,7 +291,8 @@ swept_back bs m j p r s t h k l g n lot w a v = elim (cases_lt s.all.above (p - 
         upto = omega (arith, best, w.upto);
         here = subst (Begins bs t.all.best) (sym x.0) (subst (λ b. Begins bs b s.here) (sym best) w.here);
         none = λ e. x.1 ∙ w.none (sym best ∙ e);
-        right = λ e. x.1 ∙ w.right (omega (arith, best)) ∙ ap (λ b. Some (behind (reach bs (b + 1) j).best (after (b + 1) bs - after b bs - (2 + (reach bs (b + 1) j).above)))) (sym best);
+        right = λ e. x.1 ∙ w.right (omega (arith, best)) ∙ ap (λ b. Some (reach bs (b + 1) j).best) (sym best);
+        later = λ e. x.2 ∙ w.later (omega (arith, best)) ∙ ap (λ b. after (b + 1) bs - after b bs - (2 + (reach bs (b + 1) j).above)) (sym best);
       }
 ]
   where
@@ -318,6 +316,7 @@ swept_none bs j p s h a e z =
       here = subst (Begins bs s.all.best) (sym e) (subst (λ b. Begins bs b p) (sym best) h);
       none = λ i. z;
       right = λ i. absurd (omega (arith, best));
+      later = λ i. absurd (omega (arith, best));
     }
 
 -- ---- lots with none below them

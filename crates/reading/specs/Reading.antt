@@ -1,6 +1,5 @@
 -- What the reader finds in the bits of a sheet.
 use Rattle.std.specs.Prelude.{◌≡◌, ℕ, ◌+◌, ◌-◌, ◌*◌, ◌^◌, ◌<◌, ◌≤◌, Bool, true, false, cond, List, take, drop, Some, None, Option, ◌==◌}
-use Rattle.reading.specs.declared.climb.Behind.{Behind}
 use Rattle.reading.specs.declared.climb.Climb.{Climb}
 use Rattle.reading.specs.declared.climb.Mark.{Mark}
 use Rattle.reading.specs.declared.climb.Sweep.{Sweep}
@@ -45,15 +44,11 @@ pub record Small (s : Climb) : Type 0 where
   pub above : s.above + s.lot ≤ 2 ^ 33
   pub steps : s.steps + s.lot ≤ 2 ^ 33
 
--- the best lot behind another, and the children that the other has after it
-abbrev pub behind : ℕ → ℕ → Behind
-behind lot later = record { lot = lot; later = later }
-
 -- the new values of a sweep but for its climb: other ones where the best changes
 abbrev pub Widened : Sweep → ℕ → ℕ → Sweep → Type 0
 Widened s from children r =
-    (s.all.above < children → (r.here ≡ from) × (r.right ≡ Some (behind s.all.best (children - s.all.above - 1))))
-    × (children ≤ s.all.above → (r.here ≡ s.here) × (r.right ≡ s.right))
+    (s.all.above < children → (r.here ≡ from) × (r.right ≡ Some s.all.best) × (r.later ≡ children - s.all.above - 1))
+    × (children ≤ s.all.above → (r.here ≡ s.here) × (r.right ≡ s.right) × (r.later ≡ s.later))
 
 -- what a sweep from lot j to lot i has seen
 pub record Swept (bs : List Bool) (i j : ℕ) (s : Sweep) : Type 0 where
@@ -64,7 +59,8 @@ pub record Swept (bs : List Bool) (i j : ℕ) (s : Sweep) : Type 0 where
   pub upto : s.all.best ≤ j
   pub here : Begins bs s.all.best s.here
   pub none : s.all.best ≡ j → s.right ≡ None
-  pub right : s.all.best < j → s.right ≡ Some (behind (reach bs (s.all.best + 1) j).best (after (s.all.best + 1) bs - after s.all.best bs - (2 + (reach bs (s.all.best + 1) j).above)))
+  pub right : s.all.best < j → s.right ≡ Some (reach bs (s.all.best + 1) j).best
+  pub later : s.all.best < j → s.later ≡ after (s.all.best + 1) bs - after s.all.best bs - (2 + (reach bs (s.all.best + 1) j).above)
 
 -- a way one number further
 pub record Stepped (w : Way) (from children : ℕ) (r : Way) : Type 0 where

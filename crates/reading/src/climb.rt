@@ -1,11 +1,10 @@
 //! Back through the numbers of children, from lot to lot.
 
-ghost use Rattle.std.specs.Prelude.{◌≡◌, ◌+◌, ◌-◌, ◌≤◌, false, Some};
-ghost use Rattle.std.specs.Iterator.{at_most};
+ghost use Rattle.std.specs.Prelude.{◌≡◌, ◌+◌, ◌≤◌, false, Some};
 ghost use Rattle.bits.specs.Bits.{bit_at};
 ghost use Rattle.leaders.specs.Sheet.{unary};
 ghost use Rattle.reading.specs.Climbing.{at, climb};
-ghost use Rattle.reading.specs.Place.{Number, Begins, Back};
+ghost use Rattle.reading.specs.Place.{Number, Begins};
 ghost use Rattle.reading.specs.Reading.{Small, Swept, Widened};
 
 use bits::iter::Bits;
@@ -74,63 +73,14 @@ pub struct Mark {
     pub at: usize,
 }
 
-/// The lots on the way back from a mark to lot `low`: the lot before, and how many children it has.
-#[derive(Drop)]
-pub(crate) struct Numbers<'a, T: Tape> {
-    pub tape: &'a T,
-    pub low: u32,
-    pub mark: Mark,
-    ghost begins: { Begins (T.Tape.bits tape.now) mark.lot mark.at },
-    ghost range: { (1 ≤ low) × (low ≤ mark.lot) },
-}
-
-impl<'a, T: Tape> Numbers<'a, T> {
-    /// The way back from the lot at `mark` to lot `low`.
-    pub(crate) fn back(tape: &'a T, low: u32, mark: Mark) -> Numbers<'a, T>
-        requires begins { Begins (T.Tape.bits tape.now) mark.lot mark.at }
-        requires range { (1 ≤ low) × (low ≤ mark.lot) }
-        ensures tape { T.Tape.bits result.tape.now ≡ T.Tape.bits tape.now }
-        ensures low { result.low ≡ low }
-        ensures mark { result.mark ≡ mark }
-    {
-        Numbers { tape, low, mark }
-    }
-}
-
-impl<'a, T: Tape> Iterator for Numbers<'a, T> {
-    type Item = (Mark, usize);
-
-    ghost next_gives = { λ s r t. (T.Tape.bits t.tape.now ≡ T.Tape.bits s.tape.now) × (t.low ≡ s.low) × Back (T.Tape.bits s.tape.now) s.low s.mark r t.mark };
-
-    ghost remaining = { λ s. at_most (s.mark.lot - s.low) };
-
-    fn next(&mut self) -> Option<(Mark, usize)> {
-        if self.low >= self.mark.lot {
-            return None;
-        }
-        let end = self.mark.at - 1;
-        let at = number_back(self.tape, end);
-        self.mark = Mark {
-            lot: self.mark.lot - 1,
-            at,
-        };
-        Some((self.mark, end - at))
-    }
-}
-
-/// The best lot behind another, and the children that the other has after it.
-#[derive(Clone, Copy)]
-pub struct Behind {
-    pub lot: u32,
-    pub later: usize,
-}
-
-/// What a reader has seen on its way back: where the number of the best lot begins, and what is behind it, if it is not the last.
+/// What a reader has seen on its way back: where the number of the best lot begins, the best lot behind it, if there is one, and the children of the best behind that one.
 #[derive(Clone, Copy)]
 pub struct Sweep {
     pub all: Climb,
     pub here: usize,
-    pub right: Option<Behind>,
+    pub right: Option<u32>,
+    // Beside the option and not in it: with an option of both, ten of 250 random lots took 1.51 times as long as by hand in C, over the bar of 1.5; as here, 1.32.
+    pub later: usize,
 }
 
 /// Back over the number of `before`, the lot before, which has so many children.
@@ -147,16 +97,15 @@ pub(crate) fn widen(s: Sweep, before: Mark, children: usize) -> Sweep
         Sweep {
             all,
             here: before.at,
-            right: Some(Behind {
-                lot: s.all.best,
-                later: children - s.all.above - 1,
-            }),
+            right: Some(s.all.best),
+            later: children - s.all.above - 1,
         }
     } else {
         Sweep {
             all,
             here: s.here,
             right: s.right,
+            later: s.later,
         }
     }
 }
@@ -169,13 +118,18 @@ pub(crate) fn sweep_back<T: Tape>(tape: &T, low: u32, high: Mark) -> Sweep
     ensures short { result.here ≤ high.at }
     ensures small { Small result.all }
 {
+    let mut at = high.at;
     let mut s = Sweep {
         all: start_at(high.lot),
         here: high.at,
         right: None,
+        later: 0,
     };
-    for (before, children) in Numbers::back(tape, low, high) {
-        s = widen(s, before, children);
+    // Written out here, in `go_back` and in `go_home`: with one iterator over the lots for the three, pages of ten lots of random books took 1.9 to 2.4 times as long as by hand in C, over the bar of 1.5; as here, 1.3 to 1.5.
+    for lot in (low..high.lot).rev() {
+        let end = at - 1;
+        at = number_back(tape, end);
+        s = widen(s, Mark { lot, at }, end - at);
     }
     s
 }

@@ -9,11 +9,11 @@ use crate::climb::{Mark, Sweep, start_at, sweep_back};
 use crate::place::{Way, Ways, go_back, go_home, zero_first};
 use bits::tape::Tape;
 
-/// Whether the best in front of the best lot of a sweep, to which a reader has gone `within` steps, is better than the best behind it, after which it has `later` children.
-fn left_first<T: Tape>(tape: &T, lots: u32, s: Sweep, later: usize, within: usize, w: Ways) -> bool
+/// Whether the best in front of the best lot of a sweep, to which a reader has gone `within` steps, is better than the best behind it.
+fn left_first<T: Tape>(tape: &T, lots: u32, s: Sweep, within: usize, w: Ways) -> bool
     requires short { s.here ≤ 32768 }
     requires few { Few w.way }
-    ensures { (a above : ℕ) → Front (T.Tape.bits tape.now) s.all.best a within s.all.steps w → s.here ≡ after s.all.best (T.Tape.bits tape.now) → later ≡ after (s.all.best + 1) (T.Tape.bits tape.now) - after s.all.best (T.Tape.bits tape.now) - (2 + above) → result ≡ is_left_first (T.Tape.bits tape.now) lots s.all.best a above }
+    ensures { (a above : ℕ) → Front (T.Tape.bits tape.now) s.all.best a within s.all.steps w → s.here ≡ after s.all.best (T.Tape.bits tape.now) → s.later ≡ after (s.all.best + 1) (T.Tape.bits tape.now) - after s.all.best (T.Tape.bits tape.now) - (2 + above) → result ≡ is_left_first (T.Tape.bits tape.now) lots s.all.best a above }
 {
     let way = w.way;
     let depth = w.own.steps.saturating_sub(s.all.steps);
@@ -22,20 +22,20 @@ fn left_first<T: Tape>(tape: &T, lots: u32, s: Sweep, later: usize, within: usiz
     let children = s.here.saturating_sub(way.at).saturating_sub(before);
     let lone = if way.bare { way.lone + 1 } else { way.lone };
     let symbols = 2 * lots as usize + 2 + children + lone;
-    zero_first(tape, symbols.saturating_sub(way.left.steps + 1), x, later)
+    zero_first(tape, symbols.saturating_sub(way.left.steps + 1), x, s.later)
 }
 
-/// The second of the lots back to `low`, over which a sweep has gone, if there is another.
-fn runner_up<T: Tape>(tape: &T, lots: u32, low: u32, s: Sweep) -> Option<u32>
-    requires swept { (high : ℕ) × Swept (T.Tape.bits tape.now) low high s }
+/// The second of the lots from `low` to `high`, over which a sweep has gone, if there is another.
+fn runner_up<T: Tape>(tape: &T, lots: u32, low: u32, high: u32, s: Sweep) -> Option<u32>
+    requires swept { Swept (T.Tape.bits tape.now) low high s }
     requires low { 1 ≤ low }
     requires short { s.here ≤ 32768 }
     requires small { Small s.all }
-    ensures { (high : ℕ) → Swept (T.Tape.bits tape.now) low high s → result ≡ runner_up_of (T.Tape.bits tape.now) lots low high s.all.best }
+    ensures { result ≡ runner_up_of (T.Tape.bits tape.now) lots low high s.all.best }
 {
     let k = s.all.best;
     if low >= k {
-        return s.right.map(|behind| behind.lot);
+        return s.right;
     }
     let start = Way {
         at: s.here,
@@ -52,18 +52,18 @@ fn runner_up<T: Tape>(tape: &T, lots: u32, low: u32, s: Sweep) -> Option<u32>
     };
     let near = go_back(tape, low, next);
     let a = near.left.best;
-    let Some(behind) = s.right else {
+    if k >= high {
         return Some(a);
-    };
+    }
     let ways = Ways {
         way: near,
         own: s.all,
     };
     let far = go_home(tape, ways);
-    if left_first(tape, lots, s, behind.later, near.left.steps, far) {
+    if left_first(tape, lots, s, near.left.steps, far) {
         Some(a)
     } else {
-        Some(behind.lot)
+        s.right
     }
 }
 
@@ -88,7 +88,7 @@ pub fn pair_of<T: Tape>(tape: &T, lots: u32, i: u32, j: u32) -> Option<Pair>
         at: n.min(p.saturating_add(1)),
     };
     let s = sweep_back(tape, i, high);
-    let second = runner_up(tape, lots, i, s);
+    let second = runner_up(tape, lots, i, j, s);
     Some(Pair {
         best: s.all.best,
         second,

@@ -5,7 +5,7 @@ ghost use Rattle.leaders.specs.Tree.{sooner};
 ghost use Rattle.reading.specs.Place.{Begins, lonely};
 ghost use Rattle.reading.specs.Reading.{On, Small, Few, Stepped, Goes};
 
-use crate::climb::{Climb, Mark, Numbers, pass};
+use crate::climb::{Climb, Mark, number_back, pass};
 use bits::iter::Bits;
 use bits::tape::Tape;
 
@@ -58,12 +58,10 @@ pub(crate) fn go_back<T: Tape>(tape: &T, low: u32, from: Way) -> Way
     ensures few { Few result }
 {
     let mut w = from;
-    let mark = Mark {
-        lot: from.left.lot,
-        at: from.at,
-    };
-    for (before, children) in Numbers::back(tape, low, mark) {
-        w = step_back(w, before, children);
+    for lot in (low..from.left.lot).rev() {
+        let end = w.at - 1;
+        let at = number_back(tape, end);
+        w = step_back(w, Mark { lot, at }, end - at);
     }
     w
 }
@@ -79,14 +77,12 @@ pub(crate) fn go_home<T: Tape>(tape: &T, from: Ways) -> Ways
     ensures few { Few result.way }
 {
     let mut w = from;
-    let mark = Mark {
-        lot: from.way.left.lot,
-        at: from.way.at,
-    };
-    for (before, children) in Numbers::back(tape, 1, mark) {
+    for lot in (1..from.way.left.lot).rev() {
+        let end = w.way.at - 1;
+        let at = number_back(tape, end);
         w = Ways {
-            way: step_back(w.way, before, children),
-            own: pass(w.own, before.lot, children),
+            way: step_back(w.way, Mark { lot, at }, end - at),
+            own: pass(w.own, lot, end - at),
         };
     }
     w

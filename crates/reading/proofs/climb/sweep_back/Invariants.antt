@@ -1,14 +1,13 @@
-use Rattle.std.proofs.Common.{◌≡◌, ◌≤◌}
+use Rattle.std.proofs.Common.{◌≤◌}
+use Rattle.reading.specs.Place.{Begins}
 use Rattle.reading.specs.Reading.{Small, Swept}
 use Rattle.reading.proofs.climb.sweep_back.Given as goal
 
-abbrev pub invariant-loop-before : goal.invariant-loop-before
-invariant-loop-before g l =
-    let way = l.before-iterator in
-    (g.T.Tape.bits way.tape.now ≡ g.T.Tape.bits l.tape)
-    × (way.low ≡ l.low)
+abbrev pub invariant-loop-lot : goal.invariant-loop-lot
+invariant-loop-lot g l =
+    (l.low ≤ l.lot)
     × Small l.s.all
-    × (way.mark.lot ≤ l.fn.high.lot)
-    × (way.mark.at ≤ l.fn.high.at)
-    × (l.s.here ≤ l.fn.high.at)
-    × Swept (g.T.Tape.bits l.tape) way.mark.lot l.fn.high.lot l.s
+    × (l.at ≤ l.initial.at)
+    × (l.s.here ≤ l.initial.at)
+    × Begins (g.T.Tape.bits l.tape) l.lot l.at
+    × Swept (g.T.Tape.bits l.tape) l.lot l.initial.lot l.s

@@ -18,6 +18,6 @@ returns g c a above f here later =
     let word : c.saturating_sub-3.result ≡ word_at bs c.args.lots k = omega (arith, lone, here, f.first, f.left) in
     let x : c.saturating_sub-x.result ≡ (reach bs 1 a).steps - (reach bs 1 k).steps = omega (arith, f.best, f.own) in
     c.zero_first.ensures
-    ∙ ap (λ z. sooner (drop z bs) c.saturating_sub-x.result c.args.later) word
-    ∙ ap (λ z. sooner (drop (word_at bs c.args.lots k) bs) z c.args.later) x
+    ∙ ap (λ z. sooner (drop z bs) c.saturating_sub-x.result c.args.s.later) word
+    ∙ ap (λ z. sooner (drop (word_at bs c.args.lots k) bs) z c.args.s.later) x
     ∙ ap (λ z. sooner (drop (word_at bs c.args.lots k) bs) ((reach bs 1 a).steps - (reach bs 1 k).steps) z) later

@@ -48,7 +48,7 @@ returns g c b s e p q r =
     let first = c.sweep_back-s.result.all.best in
     let k : first ≡ (reach bs i j).best = ap (λ z. z.best) swept.all in
     let h : Best b i j first = subst (Best b i j) (sym k) (best_read b s bs n e i j p q r) in
-    let x : c.runner_up-second.result ≡ runner_up_of bs n i j first = c.runner_up-second.ensures j swept in
+    let x : c.runner_up-second.result ≡ runner_up_of bs n i j first = c.runner_up-second.ensures in
     let is = best_one b s i j first (best b i j) h (best_is b s i j q) in
     let o = runner_up_of bs n i j (reach bs i j).best in (
       is,
