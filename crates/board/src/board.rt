@@ -43,6 +43,7 @@ impl<T: Tape> Board<T> {
         Ok(n)
     }
 
+    // `start` and `size` as two numbers, as C and the command lines bring them.
     /// Shows the best and the second of the `size` lots from `start` on, or of as many as there are. A refused page blanks the panel.
     pub fn page<P: Panel>(&self, panel: &mut P, start: u32, size: u32) -> Result<(), BoardFault>
         ensures reply { answered told result ≡ page_reply self.now.lots start size }

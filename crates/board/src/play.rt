@@ -90,6 +90,7 @@ pub fn play_board<T: Tape + Drop, D: Panel>(
     Ok(play_into(tape, panels, calls, answers))
 }
 
+// Beside `play_board`, since that may plead want of memory, and this never does.
 /// The same, with the answers noted in a list that has room for them; without that nothing is played, and want of memory is never told.
 pub fn play_board_noted<T: Tape + Drop, D: Panel>(
     tape: T,

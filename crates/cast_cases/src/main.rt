@@ -72,6 +72,7 @@ fn letters_of<K: Key + Copy>(
     }
 }
 
+// A digest of three lines, as other test programs have: a crate for them would be longer.
 /// The 32-bit FNV-1a digest of some bytes.
 fn digest(bytes: &[u8]) -> u32 {
     let mut sum = 0x811C_9DC5u32;
@@ -210,6 +211,7 @@ fn answer(rt: &HostRuntime, line: &str) -> anyhow::Result<()> {
     }
 }
 
+// Each test program has its lines and its answers: what is alike is this loop.
 fn main(rt: HostRuntime) -> anyhow::Result<()> {
     for line in rt.lines(rt.alloc()) {
         let text = line?;

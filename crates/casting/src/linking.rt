@@ -12,7 +12,7 @@ pub(crate) fn link<L: Lots>(lots: &L, links: &mut Links)
     ensures linked { LotsLinked (L.Lots.order lots.now) links.new.n links.new }
 {
     links.clear();
-    // By the lots' numbers: a lot is linked by its number, and there is no list of lots to go through.
+    // By the lots' numbers: a lot is linked by its number, and there is no list of lots to go through. Not `1..=`, with which a loop ends in two ways, and is proved twice.
     for k in 1..lots.len() + 1 {
         let place = links.climb(k, |x| lots.beats(x as usize, k));
         links.hang(k, place);

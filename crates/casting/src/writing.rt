@@ -18,7 +18,7 @@ fn measure(words: Words, sizes: &mut [u32]) -> usize
     ensures { (b : ℕ → ℕ → Bool) → WordsReady b words.entry → Sized b words.entry.sides.n words.entry.sides.n sizes.new × (result ≡ length (spines b words.entry.sides.n)) }
 {
     let mut all = 0;
-    // By the lots' numbers, by which all lists are read; node 0 has no word.
+    // By the lots' numbers, by which all lists are read; node 0 has no word. Not `1..=`, with which a loop ends in two ways.
     for k in 1..words.sides.n + 1 {
         let size = words.size(k);
         sizes[k] = size as u32;
@@ -99,7 +99,7 @@ impl<L: Lots> Sheet<'_, L> {
         ensures { Adds P.Punch.written P.Punch.room P.Punch.home punch.old punch.new (spread (walked (L.Lots.order self.now.lots.now) self.now.words.sides.left.now self.now.words.sides.right.now self.now.sizes.now) 1 self.now.words.sides.n) }
     {
         let sides = self.words.sides;
-        // By the lots' numbers, by which all lists are read; node 0 has no word.
+        // By the lots' numbers, by which all lists are read; node 0 has no word. Not `1..=`, with which a loop ends in two ways.
         for k in 1..sides.n + 1 {
             let from = Walks {
                 lower: sides.left[k],

@@ -4,6 +4,7 @@ ghost use Rattle.std.specs.Prelude.{◌≡◌, ◌≤◌, [], length, position, 
 ghost use Rattle.std.specs.Iterator.{YieldsFirstRef, item_count};
 ghost use Rattle.commands.specs.Texts.{place, lines, Cut, FirstLine};
 
+// One call of `position`, as panels have one for their glyphs: neither crate knows the other.
 /// Where a byte stands first in a text, if it is there.
 pub fn place_of(text: &[u8], mark: u8) -> Option<usize>
     ensures { result ≡ position (λ b. b == mark) text.now }

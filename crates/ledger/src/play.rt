@@ -95,6 +95,7 @@ pub fn play_book<K: Key + Copy, P: Punch>(
     Ok(play_into(list, punches, work, calls, answers))
 }
 
+// Beside `play_book`, since that may plead want of memory, and this never does.
 /// The same, with the answers noted in a list that has room for them; without that nothing is played, and want of memory is never told.
 pub fn play_book_noted<K: Key + Copy, P: Punch>(
     list: &mut [K],

@@ -56,7 +56,7 @@ fn link<T: Tape>(tape: &T, links: &mut Links, places: &mut [u32])
 {
     links.clear();
     let mut at = Run::read(tape, 1).next;
-    // By the lots' numbers, since a lot is linked by its number.
+    // By the lots' numbers, since a lot is linked by its number. Not `1..=`, with which a loop ends in two ways.
     for k in 1..links.n + 1 {
         let own = Run::read(tape, at);
         let place = links.climb(k, |x| places[(x - 1) as usize] != 0);

@@ -82,6 +82,7 @@ fn code_of(answer: Result<u32, BoardFault>) -> u32 {
 fn all_case(rt: &HostRuntime, count: &str) -> anyhow::Result<()> {
     let bits = count.parse::<u32>()?.min(16);
     let mut accepted = 0u32;
+    // A digest of three lines, as other test programs have: a crate for them would be longer.
     let mut sum = 0x811C_9DC5u32;
     for number in 0..(1u32 << bits) {
         let bytes = (number << (16 - bits)).to_be_bytes();
@@ -136,6 +137,7 @@ fn pages_case(rt: &HostRuntime, letters: &str) -> anyhow::Result<()> {
     Ok(())
 }
 
+// `show_page` has one that tells a person what is wrong, and no crate for both.
 /// The start and the size of a page, parted by a comma.
 fn range_of(text: &str) -> anyhow::Result<(u32, u32)> {
     let Some((start, size)) = text.split_once(',') else {

@@ -27,6 +27,7 @@ pub(crate) fn write(cells: &mut [u8], end: usize, n: u32, glyphs: &[u8; 10])
     }
 }
 
+// One call of `position`, as commands have one for their marks: neither crate knows the other.
 /// Where a cell stands first, if it is there.
 #[tactic(auto, unfolding(crate::specs::Inner::place))]
 pub(crate) fn first_place(cells: &[u8], cell: u8) -> Option<usize>

@@ -77,6 +77,7 @@ fn rebuild_case(rt: &HostRuntime, letters: &str) -> anyhow::Result<()> {
 fn digest_case(rt: &HostRuntime, letters: &str) -> anyhow::Result<()> {
     let n = lots_of(letters);
     let done = rebuild(rt, letters, true, n, n.saturating_add(1).saturating_mul(4))?;
+    // A digest of three lines, as other test programs have: a crate for them would be longer.
     let mut sum = 0x811C_9DC5u32;
     for price in &done.prices {
         sum = (sum ^ *price).wrapping_mul(0x0100_0193);
@@ -131,6 +132,7 @@ fn answer(rt: &HostRuntime, line: &str) -> anyhow::Result<()> {
     }
 }
 
+// Each test program has its lines and its answers: what is alike is this loop.
 fn main(rt: HostRuntime) -> anyhow::Result<()> {
     for line in rt.lines(rt.alloc()) {
         let text = line?;

@@ -186,7 +186,7 @@ impl<T: Tape> Parts<'_, '_, T> {
         ensures ordered { (t : Tree) → size t ≡ self.old.order.sides.n → Wellformed t → Holds self.old.ends.now self.old.order.sides.left.now self.old.order.sides.right.now (word_at (T.Tape.bits self.old.words.tape.now) self.old.words.starts.now self.old.order.sides.n) 0 t → Chain self.new.order.next.now (top 0 t) (list_of 0 t) }
     {
         let n = self.order.sides.n;
-        // By the lots' numbers, as they are in `leave`.
+        // By the lots' numbers, as they are in `leave`. Not `1..=`, with which a loop ends in two ways.
         for k in 1..n + 1 {
             let limit = self.ends[k];
             self.leave((k - 1) as u32, limit);

@@ -11,6 +11,7 @@ pub(crate) fn hand_out(prices: &mut [u32], order: &Order, first: u32)
     ensures { Prices order.now.sides.n order.now.next.now first prices.new }
 {
     let mut x = first;
+    // Not `1..=`, with which a loop ends in two ways.
     for price in (1..order.sides.n + 1).rev() {
         // 0 ends the list, as it is stored.
         if x == 0 {
