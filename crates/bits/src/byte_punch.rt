@@ -7,7 +7,7 @@ use crate::punch::{Full, Punch};
 use crate::tape::Tape;
 use std::marker::PhantomData;
 
-/// A way in which bits lie in bytes, one after another.
+/// A way in which bits lie in bytes, one after another. Public for the kinds of punches of our crates: only a punch calls it, and finds room before it puts a bit.
 pub trait Cells {
     // The first bits in bytes, as many as are said.
     ghost bits: { List ℕ → ℕ → List Bool };
