@@ -1,10 +1,9 @@
 -- The numbers of children one after another, on the way back.
-use Rattle.std.proofs.Common.{◌≡◌, ℕ, zero, suc, ◌+◌, ◌-◌, ◌<◌, ◌≤◌, Bool, true, false, cond, not, ◌&&◌, eqb, List, [], ◌∷◌, ◌++◌, map, length, take, drop, reverse, Some, None, Option, unwrap_or, sym, refl, ap, ◌∙◌, subst, inl, inr, add-one, arith, length-take}
-use Rattle.std.specs.List.{slice_get, prefix_len}
+use Rattle.std.proofs.Common.{◌≡◌, ℕ, zero, suc, ◌+◌, ◌-◌, ◌<◌, ◌≤◌, Bool, true, false, cond, not, ◌&&◌, eqb, List, [], ◌∷◌, ◌++◌, map, length, take, drop, Some, None, Option, unwrap_or, sym, refl, ap, ◌∙◌, subst, inl, inr, add-one, arith, length-take}
+use Rattle.std.specs.List.{slice_get}
 use Rattle.std.proofs.lemmas.Bool.{cases_lt, ne_eqb, lt-ltb}
-use Rattle.std.proofs.lemmas.List.{drop_all, reverse-append}
+use Rattle.std.proofs.lemmas.List.{drop_all}
 use Rattle.bits.specs.Bits.{ones, rank_of}
-use Rattle.bits.proofs.Between.{between_last}
 use Rattle.bits.proofs.Bitlists.{rank_yes}
 use Rattle.leaders.specs.Sheet.{unary}
 use Rattle.reading.specs.declared.climb.Climb.{Climb}
@@ -80,49 +79,9 @@ number_more bs end p h k e v n =
     ∙ ap (◌∷◌ true) n
     ∙ ap unary (let z : suc (end - p) ≡ end - (p - 1) = omega arith in z)
 
-not_none : {X : Type 0} (xs : List X) (p : ℕ) → p < length xs → slice_get xs p ≡ None → ⊥
-not_none [] p h e = omega arith
-not_none (x ∷ xs) zero h e = (let z : ◌≡◌ {A = ℕ} 0 1 = cc in omega arith)
-not_none (x ∷ xs) (suc p) h e = not_none xs p (omega arith) e
-
--- a number begins behind the ones that stand right before its zero, as many as one counts back to the next zero
-abbrev pub ones_back : List Bool → ℕ → ℕ
-ones_back bs e = prefix_len (λ b. b) (reverse (take e bs))
-
-module _ (bs : List Bool) (end : ℕ) (zero_at : slice_get bs end ≡ Some false) where
-  -- b ones stand before place e, and no more
-  Runs : ℕ → ℕ → Type 0
-  Runs e b = (b ≤ e) × (drop (e - b) (take (suc end) bs) ≡ unary (end - (e - b))) × (1 ≤ e - b → slice_get bs (e - b - 1) ≡ Some false)
-
-  runs_none : (e : ℕ) → drop e (take (suc end) bs) ≡ unary (end - e) → (1 ≤ e → slice_get bs (e - 1) ≡ Some false) → Runs e 0
-  unfolding Runs
-  runs_none e i z = let f : e - 0 ≡ e = omega arith in rw f (omega arith, i, z)
-
-  runs_more : (e b : ℕ) → Runs e b → Runs (suc e) (1 + b)
-  unfolding Runs
-  runs_more e b r = let f : suc e - (1 + b) ≡ e - b = omega arith in rw f (omega (arith, r.0), r.1, r.2)
-
-  last_first : (e : ℕ) (b : Bool) → slice_get bs e ≡ Some b → reverse (take (suc e) bs) ≡ b ∷ reverse (take e bs)
-  last_first e b f = ap reverse (between_last bs 0 (suc e) e b refl (omega arith) f) ∙ reverse-append (take e bs) (b ∷ [])
-
-  runs : (e : ℕ) → e ≤ end → drop e (take (suc end) bs) ≡ unary (end - e) → Runs e (ones_back bs e)
-  runs zero h i = runs_none 0 i (λ k. absurd (omega arith))
-  runs (suc e) h i = go (runs e (omega arith)) (slice_get bs e) refl
-    where
-      go : (drop e (take (suc end) bs) ≡ unary (end - e) → Runs e (ones_back bs e)) → (o : Option Bool) → slice_get bs e ≡ o → Runs (suc e) (prefix_len (λ b. b) (reverse (take (suc e) bs)))
-      go below None f = absurd (not_none bs e (omega (arith, nth_within bs end false zero_at)) f)
-      go below (Some true) f =
-          let z : suc e - 1 ≡ e = omega arith in
-          let v : unwrap_or (slice_get bs (suc e - 1)) true ≡ true = ap (λ q. unwrap_or (slice_get bs q) true) z ∙ ap (λ o. unwrap_or o true) f in
-          rw (last_first e true f) (runs_more e (ones_back bs e) (below
-          (subst (λ q. drop q (take (suc end) bs) ≡ unary (end - q)) z (number_more bs end (suc e) (omega arith) h zero_at v i))))
-      go below (Some false) f = rw (last_first e false f) (runs_none (suc e) i (λ k. rw (let z : suc e - 1 ≡ e = omega arith in z) f))
-
-  pub number_back : (ones_back bs end ≤ end) × Number bs end (end - ones_back bs end)
-  unfolding Runs
-  number_back =
-      let r = runs end (omega arith) (number_none bs end zero_at) in
-      (r.0, record { is = r.1; zero_before = r.2 })
+pub read_zero : (o : Option Bool) → unwrap_or o true ≡ false → o ≡ Some false
+read_zero None e = cc
+read_zero (Some b) e = ap Some e
 
 -- ---- where numbers begin
 

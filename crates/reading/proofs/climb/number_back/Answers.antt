@@ -1,33 +1,42 @@
-use Rattle.std.proofs.Common.{◌≡◌, ◌-◌, reverse, take, sym, ap, subst, ◌∙◌, arith, rules, tests}
-use Rattle.std.specs.List.{prefix_len}
-use Rattle.std.specs.Iterator.Adapters.{rev_source, take_while_source}
-use Rattle.std.proofs.lemmas.List.Folds.{length-prefix_len}
-use Rattle.std.proofs.lemmas.Iterator.Consumers.{count_from_yields_List}
-use Rattle.std.proofs.lemmas.Iterator.Search.{YieldsList-from_take_while}
-use Rattle.bits.specs.Bits.{bits_between}
-use Rattle.bits.proofs.Going.{backward}
-use Rattle.reading.specs.Place.{Number}
-use Rattle.reading.proofs.Numbers.{ones_back, number_back}
+use Rattle.std.proofs.Common.{◌≡◌, suc, ◌+◌, ◌-◌, true, false, take, drop, unwrap_or, sym, ap, ◌∙◌, arith}
+use Rattle.std.specs.List.{slice_get}
+use Rattle.leaders.specs.Sheet.{unary}
+use Rattle.reading.proofs.Numbers.{number_none, number_more, read_zero}
 use Rattle.reading.proofs.climb.number_back.Goals as goal
-use Rattle.reading.proofs.climb.number_back.Goals.{After-count}
 
--- the ones right before the end are counted
-counted : (g : _) (c : After-count g) → c.count.result ≡ ones_back (g.T.Tape.bits c.args.tape.now) c.args.end
-counted g c =
+pub loop-p-init : goal.loop-p-init
+loop-p-init g c = number_none (g.T.Tape.bits c.args.tape.now) c.args.end c.requires
+
+pub loop-p-preserved : goal.loop-p-preserved
+loop-p-preserved g c =
     let bs = g.T.Tape.bits c.args.tape.now in
-    let source = take_while_source c.take_while-ones.result in
-    let all : bits_between (g.T.Tape.bits (rev_source source).tape.now) (rev_source source).from (rev_source source).upto ≡ take c.args.end bs = search rules in
-    count_from_yields_List c.take_while-ones.result c.count.result c.count.ensures.ran
-    (YieldsList-from_take_while _ (λ b. b) (backward (λ s. bits_between (g.T.Tape.bits s.tape.now) s.from s.upto) source) c.take_while-ones.ensures.closure c.take_while-ones.ensures.done (λ x r q k. search (rules, tests)))
-    ∙ length-prefix_len (λ b. b) _ ∙ ap (λ xs. prefix_len (λ b. b) (reverse xs)) all
+    let p = c.loop-p.p in
+    let v : unwrap_or (slice_get bs (p - 1)) true ≡ true = cc in
+    number_more bs c.args.end p (omega arith) (omega arith) c.requires v c.loop-p.invariant
 
-pub overflow_sub-result : goal.overflow_sub-result
-overflow_sub-result g c = omega (arith, counted g c, (number_back (g.T.Tape.bits c.args.tape.now) c.args.end c.requires).0)
+pub returns-then-not-unwrap_or : goal.returns-then-not-unwrap_or
+returns-then-not-unwrap_or g c =
+    let bs = g.T.Tape.bits c.args.tape.now in
+    let p = c.loop-p.p in
+    let s : p ≡ p - 1 + 1 = omega arith in
+    let v : unwrap_or (slice_get bs (p - 1)) true ≡ false = cc in
+    let zero = read_zero (slice_get bs (p - 1)) v in
+    record {
+      short = omega arith;
+      is = record {
+        is = ap (λ q. drop q (take (suc c.args.end) bs)) (sym s) ∙ c.loop-p.invariant ∙ ap (λ q. unary (c.args.end - q)) s;
+        zero_before = λ h. ap (slice_get bs) (let z : p - 1 + 1 - 1 ≡ p - 1 = omega arith in z) ∙ zero;
+      };
+    }
 
 pub returns : goal.returns
 returns g c =
-    let k = counted g c in
+    let bs = g.T.Tape.bits c.args.tape.now in
+    let z : c.loop-p.p ≡ 0 = omega arith in
     record {
       short = omega arith;
-      is = subst (λ n. Number (g.T.Tape.bits c.args.tape.now) c.args.end (c.args.end - n)) (sym k) (number_back (g.T.Tape.bits c.args.tape.now) c.args.end c.requires).1;
+      is = record {
+        is = ap (λ q. drop q (take (suc c.args.end) bs)) (sym z) ∙ c.loop-p.invariant ∙ ap (λ q. unary (c.args.end - q)) z;
+        zero_before = λ h. absurd (omega arith);
+      };
     }
