@@ -41,6 +41,9 @@ ones_le_length (false ∷ bs) = omega (arith, ones_le_length bs)
 pub rank_yes : (bs : List Bool) (i : ℕ) (b : Bool) → b ≡ set_at bs i → b ≡ true → rank_of bs (i + 1) ≡ rank_of bs i + 1
 rank_yes bs i b e t = rank_more bs i b e ∙ ap (λ (x : Bool). rank_of bs i + one x) t
 
+pub rank_no : (bs : List Bool) (i : ℕ) (b : Bool) → b ≡ set_at bs i → b ≡ false → rank_of bs (i + 1) ≡ rank_of bs i
+rank_no bs i b e t = let h : rank_of bs (i + 1) ≡ rank_of bs i + 0 = rank_more bs i b e ∙ ap (λ (x : Bool). rank_of bs i + one x) t in omega arith
+
 pub nth_map : {X Y : Type 0} (f : X → Y) (xs : List X) (i : ℕ) → slice_get (map f xs) i ≡ option_map f (slice_get xs i)
 nth_map f [] i = refl
 nth_map f (x ∷ xs) zero = refl

@@ -42,17 +42,6 @@ tells_first f a n b bs t = let e : Some b ≡ Some (f (a + 0)) = t 0 (omega arit
 tells_rest : (f : ℕ → Bool) (a n : ℕ) (b : Bool) (bs : List Bool) → Tells f a (suc n) (b ∷ bs) → Tells f (a + 1) n bs
 tells_rest f a n b bs t i h = t (suc i) (omega arith) ∙ ap (λ k. Some (f k)) (let e : a + suc i ≡ a + 1 + i = omega arith in e)
 
--- how many numbers stay
-filtered_count : (f : ℕ → Bool) (a n : ℕ) (bs : List Bool) → Tells f a n bs → length (filter f (range_with_len a n)) ≡ ones (take n bs)
-filtered_count f a zero bs t = refl
-filtered_count f a (suc n) [] t = absurd (let e : ◌≡◌ {A = Option Bool} None (Some (f (a + 0))) = t 0 (omega arith) in let z : ◌≡◌ {A = ℕ} 0 1 = cc in omega arith)
-filtered_count f a (suc n) (true ∷ bs) t = rw (tells_first f a n true bs t) (omega (arith, filtered_count f (a + 1) n bs (tells_rest f a n true bs t)))
-filtered_count f a (suc n) (false ∷ bs) t = rw (tells_first f a n false bs t) (filtered_count f (a + 1) n bs (tells_rest f a n false bs t))
-
--- rank by filtering: how many stay of the numbers below n
-pub filtered_rank : (f : ℕ → Bool) (n : ℕ) (bs : List Bool) → ((i : ℕ) → i < n → slice_get bs i ≡ Some (f i)) → length (filter f (range_with_len 0 n)) ≡ rank_of bs n
-filtered_rank f n bs t = filtered_count f 0 n bs (λ i h. t i h ∙ ap (λ k. Some (f k)) (let e : i ≡ 0 + i = omega arith in e))
-
 -- the k-th number that stays, counted from 0, is the place of the one before which k ones stand
 abbrev Kth : List Bool → ℕ → ℕ → Option ℕ → Type 0
 Kth bs a k None = ones bs ≤ k

@@ -80,7 +80,7 @@ impl<'b> TapeCells<'b> for Letters {
 
     fn tape_over(bytes: &'b [u8], count: usize) -> LetteredTape<'b> {
         LetteredTape {
-            text: &bytes[..count.min(bytes.len())],
+            text: &bytes[..count.min(Letters::room_of(bytes))],
         }
     }
 }

@@ -10,7 +10,7 @@ use Rattle.panel.specs.declared.shown.Shown.TheVariants.{Blank}
 use Rattle.panel.specs.Shows.{told}
 use Rattle.rebuilding.specs.Rebuilding.{enough}
 use Rattle.reading.specs.declared.pair.Pair.{Pair}
-use Rattle.reading.specs.Leads.{Shows}
+use Rattle.reading.specs.Leads.{Finds}
 use Rattle.board.specs.declared.fault.BoardFault.{BoardFault}
 use Rattle.board.specs.declared.fault.BoardFault.TheVariants.{NotTaken, NoPage}
 
@@ -60,4 +60,4 @@ Knows b (Some n) bits = Strict b × (sheet b n ≡ bits)
 abbrev pub Found : List Bool → Option ℕ → ℕ → ℕ → Result (Option Pair) BoardFault → Type 0
 Found bits None start size r = r ≡ Err NotTaken
 Found bits (Some n) start size (Err f) = (f ≡ NoPage) × (is_page n start size ≡ false)
-Found bits (Some n) start size (Ok p) = (is_page n start size ≡ true) × Shows bits n start (page_end n start size) p
+Found bits (Some n) start size (Ok p) = (is_page n start size ≡ true) × Finds bits n start (page_end n start size) p

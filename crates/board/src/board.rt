@@ -11,7 +11,7 @@ use crate::fault::BoardFault;
 use bits::tape::Tape;
 use panel::Panel;
 use reading::check::check;
-use reading::pair::{Pair, pair_of};
+use reading::pair::{Pair, find_pair};
 use rebuilding::rebuild_prices;
 
 /// A board: it stands over one tape, and has the lots of the sheet that it has taken.
@@ -84,6 +84,6 @@ impl<T: Tape> Board<T> {
         } else {
             start + size - 1
         };
-        Ok(pair_of(&self.tape, n, start, last))
+        Ok(find_pair(&self.tape, n, start, last))
     }
 }

@@ -9,6 +9,8 @@ use std::io::Write;
 /// Adds the prices on standard input to the book, and tells of each line that is none.
 fn read_prices(rt: &HostRuntime, book: &mut Book<'_, Price>) -> anyhow::Result<()> {
     for (number, line) in (1u64..).zip(rt.lines(rt.alloc())) {
+        // From line 4,294,967,295 on, that number.
+        let number = number.min(4_294_967_295);
         let text = line?;
         match text.parse::<u32>() {
             Ok(cents) => {

@@ -1,5 +1,5 @@
 -- Where a byte stands first in a text, and how the text is parted there.
-use Rattle.std.proofs.Common.{◌≡◌, ℕ, suc, ◌+◌, ◌<◌, ◌≤◌, Bool, true, false, cond, not, eqb, ltb, List, [], ◌∷◌, length, take, drop, Some, None, sym, refl, ap, ◌∙◌, ap₂, ⊎_elim, arith}
+use Rattle.std.proofs.Common.{◌≡◌, ℕ, suc, ◌+◌, ◌<◌, ◌≤◌, Bool, true, false, cond, not, eqb, ltb, List, [], ◌∷◌, length, take, drop, Some, None, Option, unwrap_or, sym, refl, ap, ◌∙◌, ap₂, ⊎_elim, arith}
 use Rattle.std.proofs.lemmas.List.{drop_all, length-drop, take_all}
 use Rattle.std.specs.List.{position, position_or_len}
 use Rattle.std.proofs.lemmas.Bool.{cases_lt, cond-true, cond-false, lt-ltb, le-ltb}
@@ -34,6 +34,19 @@ place_found text mark at e = within (position_or_len (λ b. eqb b mark) text) (l
 
 pub place_none : (text : List ℕ) (mark : ℕ) → None ≡ position (λ b. eqb b mark) text → length text ≤ place text mark
 place_none text mark e = past (position_or_len (λ b. eqb b mark) text) (length text) (place text mark) (place_is text mark) e
+
+most : (t : Bool) (q n : ℕ) → q ≤ n → cond t 0 (suc q) ≤ suc n
+most true q n h = omega arith
+most false q n h = omega arith
+
+place_most : (text : List ℕ) (mark : ℕ) → place text mark ≤ length text
+unfolding place
+place_most [] mark = omega arith
+place_most (b ∷ bs) mark = most (eqb b mark) (place bs mark) (length bs) (place_most bs mark)
+
+pub place_or_all : (text : List ℕ) (mark : ℕ) (o : Option ℕ) → o ≡ position (λ b. eqb b mark) text → (unwrap_or o (length text) ≤ length text) × (unwrap_or o (length text) ≡ place text mark)
+place_or_all text mark None e = (omega arith, omega (arith, place_most text mark, place_none text mark e))
+place_or_all text mark (Some at) e = let (here, there) = place_found text mark at e in (omega (arith, there), here)
 
 pub cut_at : (text : List ℕ) (mark at : ℕ) (before behind : List ℕ) → before ≡ take at text → Some at ≡ position (λ b. eqb b mark) text → behind ≡ drop (at + 1) text → Cut text mark before behind
 cut_at text mark at before behind is-before found is-behind =

@@ -6,17 +6,25 @@ ghost use Rattle.commands.specs.Texts.{place, lines, Cut, FirstLine};
 
 // One call of `position`, as panels have one for their glyphs: neither crate knows the other.
 /// Where a byte stands first in a text, if it is there.
-pub fn place_of(text: &[u8], mark: u8) -> Option<usize>
+pub fn find_place(text: &[u8], mark: u8) -> Option<usize>
     ensures { result ≡ position (λ b. b == mark) text.now }
 {
     text.iter().position(|x| *x == mark)
+}
+
+/// The same, or the length if it is not there.
+pub fn place_of(text: &[u8], mark: u8) -> usize
+    ensures within { result ≤ length text.now }
+    ensures first { result ≡ place text.now mark }
+{
+    find_place(text, mark).unwrap_or(text.len())
 }
 
 /// A text up to the first place of a byte, and what stands behind that; `None` where the byte is not there.
 pub(crate) fn cut(text: &[u8], mark: u8) -> Option<(&[u8], &[u8])>
     ensures { MatchOption result (length text.now ≤ place text.now mark) (λ p. Cut text.now mark p.0.now p.1.now) }
 {
-    let at = place_of(text, mark)?;
+    let at = find_place(text, mark)?;
     Some((&text[..at], &text[at + 1..]))
 }
 

@@ -1,7 +1,6 @@
 //! A hall program: standard input answered on standard output.
 
 use crate::hall::{MOST, Room};
-use commands::line::Lines;
 use keys::key::Key;
 use std::io::{Read, Write};
 
@@ -12,10 +11,11 @@ pub fn run<K: Key + Copy + Clone>(rt: &HostRuntime, blank: K) -> anyhow::Result<
     let mut room = Room::new(blank, rt.alloc())?;
     let mut hall = room.hall();
     let mut reply = Vec::new(rt.alloc());
-    for line in Lines::new(&input[..]) {
-        hall.answer(line, &mut reply)?;
+    let mut rest = &input[..];
+    while let Some(after) = hall.answer_next(rest, &mut reply)? {
         rt.stdout().write_all(&reply)?;
         reply.clear();
+        rest = after;
     }
     Ok(())
 }

@@ -1,10 +1,10 @@
 //! What is printed of a sheet: its sizes, its bytes, and that they read back the same; or why it is none.
 
-ghost use Rattle.std.specs.Prelude.{◌≡◌, IfOk, string_bytes};
+ghost use Rattle.std.specs.Prelude.{◌≡◌, ◌<◌, ◌++◌, IfOk, string_bytes, OnOk};
 ghost use Rattle.std.specs.List.{flat_map};
 ghost use Rattle.bits.specs.Bits.{lettered};
 ghost use Rattle.packing.specs.Texts.{text_of_fault};
-ghost use Rattle.packing.specs.Reports.{hex_byte, verdict_text, text_of_sizes, Loaded, Reported};
+ghost use Rattle.packing.specs.Reports.{hex_letter, hex_byte, verdict_text, text_of_sizes, Loaded, Reported};
 
 use crate::compare::same_bits;
 use crate::letters::{LetterFault, letters_of};
@@ -13,13 +13,35 @@ use bits::tape::LetteredTape;
 use packed::tape::PackedTape;
 use std::alloc::{AllocError, Global};
 
+/// A hexadecimal digit.
+fn hex_digit(n: u8) -> char
+    requires { n < 16 }
+    ensures { result ≡ hex_letter n }
+{
+    if n < 10 {
+        (b'0' + n) as char
+    } else {
+        (b'A' - 10 + n) as char
+    }
+}
+
+// Digit by digit: with `write!` and `{:02X}` a text of 4,096 bytes took 2 to 7 times as long.
+/// Adds a byte to a text, as a space and two hexadecimal digits.
+fn push_hex(out: &mut String, byte: u8) -> Result<(), AllocError>
+    ensures { OnOk result (string_bytes out.new ≡ string_bytes out.old ++ hex_byte byte) }
+{
+    out.push(' ')?;
+    out.push(hex_digit(byte / 16))?;
+    out.push(hex_digit(byte % 16))
+}
+
 /// Bytes in hexadecimal, a space before each.
 pub fn hex(heap: Global, bytes: &[u8]) -> Result<String, AllocError>
     ensures { IfOk result (λ t. string_bytes t ≡ flat_map hex_byte bytes.now) }
 {
     let mut out = String::new(heap);
     for byte in bytes {
-        write!(out, " {byte:02X}")?;
+        push_hex(&mut out, *byte)?;
     }
     Ok(out)
 }

@@ -1,5 +1,5 @@
 -- The line panel: its code writes the line of a pair, and the pair is read off its line.
-use Rattle.std.proofs.Common.{◌≡◌, ℕ, ◌+◌, ◌-◌, ◌<◌, ◌≤◌, true, false, eqb, List, [], ◌∷◌, ◌++◌, length, get_or, take, drop, set, replicate, Some, None, Option, sym, refl, ap, ◌∙◌, append_assoc, arith}
+use Rattle.std.proofs.Common.{◌≡◌, ℕ, zero, suc, ◌+◌, ◌-◌, ◌<◌, ◌≤◌, true, false, eqb, List, [], ◌∷◌, ◌++◌, length, get_or, take, drop, set, replicate, Some, None, Option, sym, refl, ap, ◌∙◌, append_assoc, arith}
 use Rattle.std.specs.Int.Digits.{digits_of}
 use Rattle.std.specs.List.{AllByRecursion as All}
 use Rattle.std.proofs.lemmas.Int.Digits.{all_below_base_digits_of}
@@ -101,32 +101,45 @@ guess_at text (Some comma) = shown_by (reading letters None (take comma text)) (
 unfoldable pub guess_line : List ℕ → Shown
 guess_line text = guess_at text (place text 44)
 
--- a best and what is read behind its comma are read off their line
-guess_line_lem : (b : ℕ) (t : List ℕ) (o : Option ℕ) (k : ℕ) → 0 < b → b ≤ 4000 → reading letters None (t ++ replicate k 32) ≡ o → guess_line ((numeral letters b ++ 44 ∷ t) ++ replicate k 32) ≡ shown_by (Some b) o
+-- a best, if there is one, and what is read behind its comma are read off their line
+abbrev best_there : ℕ → Option ℕ
+best_there zero = None
+best_there (suc b) = Some (suc b)
+
+best_read : (b : ℕ) → b ≤ 4000 → reading letters None (numeral letters b) ≡ best_there b
+unfolding reading
+best_read zero small = refl
+best_read (suc b) small = reading_numeral letters letters_legible (suc b) (omega arith) small
+
+guess_line_lem : (b : ℕ) (t : List ℕ) (o : Option ℕ) (k : ℕ) → b ≤ 4000 → reading letters None (t ++ replicate k 32) ≡ o → guess_line ((numeral letters b ++ 44 ∷ t) ++ replicate k 32) ≡ shown_by (best_there b) o
 unfolding guess_line
-guess_line_lem b t o k some small second =
+guess_line_lem b t o k small second =
     let best = numeral letters b in
     let rest = 44 ∷ (t ++ replicate k 32) in
     let group = append_assoc best (44 ∷ t) (replicate k 32) in
     let at = place_after 44 best (t ++ replicate k 32) (no_comma b) refl in
     let front = take_at best rest (length best) refl in
     let back = drop_at best rest (length best) refl in
-    let first = reading_numeral letters letters_legible b some small in
+    let first = best_read b small in
     let skip = skip_comma (t ++ replicate k 32) in
     cc
+
+is_there : (b : ℕ) → 0 < b → best_there b ≡ Some b
+is_there zero h = absurd (omega arith)
+is_there (suc b) h = refl
 
 pub line_undone : Undoes guess_line line_of
 unfolding line_of guess_line reading place
 line_undone Blank h = refl
 line_undone (Best b) h =
     let lot = lot_is b h in
-    guess_line_lem b [] None (9 - length (numeral letters b ++ 44 ∷ [])) lot.0 lot.1 (reading_blanks letters 32 no_letter.0 (9 - length (numeral letters b ++ 44 ∷ [])) None) ∙ numbers_back (Best b) h
+    guess_line_lem b [] None (9 - length (numeral letters b ++ 44 ∷ [])) lot.1 (reading_blanks letters 32 no_letter.0 (9 - length (numeral letters b ++ 44 ∷ [])) None) ∙ ap (λ x. shown_by x None) (is_there b lot.0) ∙ numbers_back (Best b) h
 line_undone (Pair b s) h =
     let lots = and_parts (is_lot b) (is_lot s) h in
     let lot = lot_is b lots.0 in
     let next = lot_is s lots.1 in
     let k = 9 - length (numeral letters b ++ 44 ∷ numeral letters s) in
-    guess_line_lem b (numeral letters s) (Some s) k lot.0 lot.1 (reading_among letters 32 letters_legible no_letter.0 0 k s next.0 next.1) ∙ numbers_back (Pair b s) h
+    guess_line_lem b (numeral letters s) (Some s) k lot.1 (reading_among letters 32 letters_legible no_letter.0 0 k s next.0 next.1) ∙ ap (λ x. shown_by x (Some s)) (is_there b lot.0) ∙ numbers_back (Pair b s) h
 
 -- the guess by its parts, as the code takes them
 pub guess_none : (text : List ℕ) → None ≡ place text 44 → Blank ≡ guess_line text

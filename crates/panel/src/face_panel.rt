@@ -9,8 +9,8 @@ use crate::Panel;
 use crate::shown::Shown;
 use std::marker::PhantomData;
 
-/// How `N` cells show a pair of lots. For the two panels of this crate: `draw` is asked for lots only, as they have told them apart.
-pub trait Face<const N: usize> {
+/// How `N` cells show a pair of lots. No other crate sees it: `draw` is asked for lots only, as the panels have told them apart.
+pub(crate) trait Face<const N: usize> {
     // The cells that show it.
     ghost drawn: { Shown → List ℕ };
 

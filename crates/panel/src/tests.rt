@@ -1,6 +1,6 @@
 //! What each panel promises, in the words of its own definitions.
 
-ghost use Rattle.std.specs.Prelude.{◌≡◌};
+ghost use Rattle.std.specs.Prelude.{◌≡◌, ◌⊎◌};
 ghost use Rattle.panel.specs.declared.shown.Shown.TheVariants.{Blank};
 ghost use Rattle.panel.specs.Shows.{told};
 ghost use Rattle.panel.specs.Lines.{line_of, line_shows};
@@ -17,6 +17,13 @@ fn show_line(panel: &mut LinePanel, best: u32, second: Option<u32>) -> Shown
     ensures read { result ≡ line_shows panel.new.cells }
 {
     panel.show(best, second);
+    panel.shown()
+}
+
+fn read_line(panel: &LinePanel) -> Shown
+    ensures shown { result ≡ line_shows panel.now.cells }
+    ensures bytes { (result ≡ Blank) ⊎ (line_of result ≡ panel.now.cells) }
+{
     panel.shown()
 }
 
@@ -43,6 +50,13 @@ fn show_digits(panel: &mut DigitPanel, best: u32, second: Option<u32>) -> Shown
     panel.shown()
 }
 
+fn read_digits(panel: &DigitPanel) -> Shown
+    ensures shown { result ≡ digits_show panel.now.cells }
+    ensures digits { (result ≡ Blank) ⊎ (digits_lit result ≡ panel.now.cells) }
+{
+    panel.shown()
+}
+
 fn blank_digits(panel: &mut DigitPanel)
     ensures digits { panel.new.cells ≡ digits_lit Blank }
     ensures shown { digits_show panel.new.cells ≡ Blank }
@@ -62,9 +76,11 @@ fn best_alone_and_blank(rt: HostRuntime) {
     let mut line = new_line();
     assert_eq!(rt; show_line(&mut line, 7, None), Shown::Best(7));
     blank_line(&mut line);
+    assert_eq!(rt; read_line(&line), Shown::Blank);
     assert!(rt; line.cells == [b' '; 9]);
     let mut digits = new_digits();
     assert_eq!(rt; show_digits(&mut digits, 7, None), Shown::Best(7));
+    assert_eq!(rt; read_digits(&digits), Shown::Best(7));
     blank_digits(&mut digits);
     assert!(rt; digits.cells == [0; 8]);
 }

@@ -3,7 +3,7 @@
 ghost use Rattle.std.specs.Prelude.{◌≡◌, ℕ, ◌+◌, ◌-◌, ◌≤◌};
 ghost use Rattle.reading.specs.Place.{after};
 ghost use Rattle.reading.specs.Reading.{is_left_first, runner_up_of, Small, Swept, Few, Front};
-ghost use Rattle.reading.specs.Leads.{Shows};
+ghost use Rattle.reading.specs.Leads.{Shows, Finds};
 
 use crate::climb::{Mark, Sweep, start_at, sweep_back};
 use crate::place::{Way, Ways, go_back, go_home, zero_first};
@@ -74,9 +74,9 @@ pub struct Pair {
     pub second: Option<u32>,
 }
 
-/// The best and the second of the lots `i` to `j`, of `lots` lots: right where the tape's bits are a sheet of so many, and the range is one of them.
-pub fn pair_of<T: Tape>(tape: &T, lots: u32, i: u32, j: u32) -> Option<Pair>
-    ensures { Shows (T.Tape.bits tape.now) lots i j result }
+/// The best and the second of the lots `i` to `j`, of `lots` lots, as far as the tape has them: right where its bits are a sheet of so many, and the range is one of them.
+pub fn find_pair<T: Tape>(tape: &T, lots: u32, i: u32, j: u32) -> Option<Pair>
+    ensures { Finds (T.Tape.bits tape.now) lots i j result }
 {
     if i == 0 || j < i {
         return None;
@@ -93,4 +93,15 @@ pub fn pair_of<T: Tape>(tape: &T, lots: u32, i: u32, j: u32) -> Option<Pair>
         best: s.all.best,
         second,
     })
+}
+
+/// The same, with lot 0 where the tape has no such lots.
+pub fn pair_of<T: Tape>(tape: &T, lots: u32, i: u32, j: u32) -> Pair
+    ensures { Shows (T.Tape.bits tape.now) lots i j result }
+{
+    let none = Pair {
+        best: 0,
+        second: None,
+    };
+    find_pair(tape, lots, i, j).unwrap_or(none)
 }

@@ -12,7 +12,7 @@ use ledger::play::play_book_noted;
 use panel::Panel;
 use panel::digit_panel::DigitPanel;
 use panel::line_panel::LinePanel;
-use sale::rehearsal::{BoardSide, BookSide, Lists, RebuildSide, Sale, rehearse};
+use sale::rehearsal::{BoardSide, BookSide, Lists, RebuildSide, Sale, rehearse_sides};
 use std::alloc::{AllocError, Global};
 use std::io::Write;
 use telling::{draw_digits, draw_line, tell_refusal};
@@ -98,7 +98,7 @@ fn play<D: Panel>(
         work: &mut [0; NUMBERS],
     };
     let work = &mut [0; NUMBERS];
-    let sale = rehearse(&mut one, &mut two, work, &mut hall, &mut out, room);
+    let sale = rehearse_sides(&mut one, &mut two, work, &mut hall, &mut out, room);
     sale.map_err(|_| anyhow!("there is no room for the answers"))
 }
 

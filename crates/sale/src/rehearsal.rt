@@ -1,6 +1,6 @@
 //! A whole sale, played from beginning to end.
 
-ghost use Rattle.std.specs.Prelude.{◌≡◌, true, length, drop, is_ok, IfOk, OnErr};
+ghost use Rattle.std.specs.Prelude.{◌≡◌, true, map, length, drop, is_ok, IfOk, OnErr};
 ghost use Rattle.ledger.specs.Plays.{played};
 ghost use Rattle.board.specs.Sitting.{seated};
 ghost use Rattle.sale.specs.Promise.{returned, roomy_for, Rebuilt, Promise};
@@ -78,6 +78,56 @@ impl Lists {
     }
 }
 
+/// Plays a list of calls on a new book, another on a second new book, maybe of another kind of key, and a list of takes and pages on a new board over
+/// the tape; then rebuilds prices from the tape. The answers go into lists that have room for them; without that nothing is played.
+pub fn rehearse<K: Key + Copy, L: Key + Copy, P: Punch, Q: Punch, T: Tape + Copy, D: Panel>(
+    list: &mut [K],
+    punches: &mut [P],
+    calls: &[BookCall],
+    other_list: &mut [L],
+    other_punches: &mut [Q],
+    other_calls: &[BookCall],
+    work: &mut [u32],
+    tape: T,
+    panels: &mut [D],
+    board_calls: &[BoardCall],
+    prices: &mut [u32],
+    numbers: &mut [u32],
+    lists: Lists,
+) -> Result<Sale, NoRoom>
+    ensures reply { is_ok result ≡ roomy_for lists (length calls.now) (length other_calls.now) (length board_calls.now) }
+    ensures promise { IfOk result (λ v. Promise
+        (played K.Key.made K.Key.at_least P.Punch.room P.Punch.written (length work.old) list.old punches.old calls.now v.first.items list.new punches.new)
+        (played L.Key.made L.Key.at_least Q.Punch.room Q.Punch.written (length work.old) other_list.old other_punches.old other_calls.now v.second.items other_list.new other_punches.new)
+        (T.Tape.bits tape)
+        (seated D.Panel.shows panels.old board_calls.now v.board.items panels.new)
+        (returned prices.old numbers.old prices.new numbers.new v.rebuilt)) }
+    ensures rooms { (map P.Punch.room punches.new ≡ map P.Punch.room punches.old) × (map Q.Punch.room other_punches.new ≡ map Q.Punch.room other_punches.old) }
+    ensures homes { (map P.Punch.home punches.new ≡ map P.Punch.home punches.old) × (map Q.Punch.home other_punches.new ≡ map Q.Punch.home other_punches.old) }
+    ensures rest { drop 16004 work.new ≡ drop 16004 work.old }
+    ensures unplayed { OnErr result ((list.new ≡ list.old) × (punches.new ≡ punches.old) × (other_list.new ≡ other_list.old) × (other_punches.new ≡ other_punches.old) × (work.new ≡ work.old) × (panels.new ≡ panels.old) × (prices.new ≡ prices.old) × (numbers.new ≡ numbers.old)) }
+{
+    if !lists.have_room(calls.len(), other_calls.len(), board_calls.len()) {
+        return Err(NoRoom);
+    }
+    let first = ledger::play::play_into(list, punches, work, calls, lists.first);
+    let second = ledger::play::play_into(
+        other_list,
+        other_punches,
+        work,
+        other_calls,
+        lists.second,
+    );
+    let board = board::play::play_into(tape, panels, board_calls, lists.board);
+    let rebuilt = rebuild_from(tape, prices, numbers);
+    Ok(Sale {
+        first,
+        second,
+        board,
+        rebuilt,
+    })
+}
+
 /// A new book to be: the list that it is lent, the punches beside it, and the calls on it.
 #[derive(Drop)]
 pub struct BookSide<'a, K, P> {
@@ -101,9 +151,8 @@ pub struct RebuildSide<'a> {
     pub work: &'a mut [u32],
 }
 
-/// Plays a list of calls on a new book, another on a second new book, maybe of another kind of key, and a list of takes and pages on a new board over
-/// a tape; then rebuilds prices from the tape. The answers go into lists that have room for them; without that nothing is played.
-pub fn rehearse<K: Key + Copy, L: Key + Copy, P: Punch, Q: Punch, T: Tape + Copy, D: Panel>(
+/// The same, with one value for all that each book, the board and the rebuild are lent.
+pub fn rehearse_sides<K: Key + Copy, L: Key + Copy, P: Punch, Q: Punch, T: Tape + Copy, D: Panel>(
     first: &mut BookSide<'_, K, P>,
     second: &mut BookSide<'_, L, Q>,
     work: &mut [u32],
@@ -125,29 +174,19 @@ pub fn rehearse<K: Key + Copy, L: Key + Copy, P: Punch, Q: Punch, T: Tape + Copy
     ensures rest { drop 16004 work.new ≡ drop 16004 work.old }
     ensures unplayed { OnErr result ((first.new ≡ first.old) × (second.new ≡ second.old) × (work.new ≡ work.old) × (board.new ≡ board.old) × (rebuilt.new ≡ rebuilt.old)) }
 {
-    if !lists.have_room(first.calls.len(), second.calls.len(), board.calls.len()) {
-        return Err(NoRoom);
-    }
-    let first_answers = ledger::play::play_into(
+    rehearse(
         first.list,
         first.punches,
-        work,
         first.calls,
-        lists.first,
-    );
-    let second_answers = ledger::play::play_into(
         second.list,
         second.punches,
-        work,
         second.calls,
-        lists.second,
-    );
-    let board_answers = board::play::play_into(board.tape, board.panels, board.calls, lists.board);
-    let lots = rebuild_from(board.tape, rebuilt.prices, rebuilt.work);
-    Ok(Sale {
-        first: first_answers,
-        second: second_answers,
-        board: board_answers,
-        rebuilt: lots,
-    })
+        work,
+        board.tape,
+        board.panels,
+        board.calls,
+        rebuilt.prices,
+        rebuilt.work,
+        lists,
+    )
 }

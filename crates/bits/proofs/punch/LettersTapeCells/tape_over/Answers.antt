@@ -1,7 +1,6 @@
-use Rattle.std.proofs.Common.{sym, ap}
-use Rattle.bits.specs.Bits.{lettered}
-use Rattle.bits.proofs.Bitlists.{take_exact}
+use Rattle.std.proofs.Common.{arith}
+use Rattle.bits.proofs.Letters.{letters_exact, length_written}
 use Rattle.bits.proofs.punch.LettersTapeCells.tape_over.Goals as goal
 
 pub returns : goal.returns
-returns c = ap lettered (sym (take_exact c.args.count c.min.result c.args.bytes.now c.min.ensures))
+returns c = letters_exact c.args.bytes.now c.args.count c.min.result (omega (arith, c.min.ensures, c.room_of.ensures.is, length_written c.args.bytes.now c.args.count))

@@ -12,8 +12,8 @@ use Rattle.reading.proofs.Numbers.{nth_within, begins_select}
 use Rattle.reading.proofs.Places.{zeros_encode}
 use Rattle.reading.proofs.Pages.{coded, best_read}
 use Rattle.reading.proofs.Seconds.{second_read, runner_none}
-use Rattle.reading.proofs.pair.pair_of.Goals as goal
-use Rattle.reading.proofs.pair.pair_of.Goals.{After-min}
+use Rattle.reading.proofs.pair.find_pair.Goals as goal
+use Rattle.reading.proofs.pair.find_pair.Goals.{After-min}
 
 -- what is found as the second of the range is it
 second_found : (b : ℕ → ℕ → Bool) → Strict b → (i j : ℕ) → i ≤ j → (o : Option ℕ) → IsSomeAnd o (Second b i j (best b i j)) → o ≡ second b i j
